@@ -1,0 +1,4 @@
+pub mod Commitments
+pub mod Keys
+pub mod Order
+pub mod Words
