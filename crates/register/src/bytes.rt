@@ -1,8 +1,24 @@
-// Comparing byte strings.
+// Comparing and writing byte strings.
+ghost use mathlib.Core.Bool.{cond};
+ghost use mathlib.Core.List.{_++_};
 ghost use mathlib.Core.Path.{_≡_};
+ghost use lib.Dec.{leb};
+ghost use lib.ListN.{drop, length};
 ghost use Rattle.register.specs.Order.{order};
 ghost use Rattle.std.specs.shelf.Text.{sameBytes};
 use std::cmp::Ordering;
+
+// Writes `bytes` to the front of `place`; where they do not fit, nothing is written.
+pub fn write_front(place: &mut [u8], bytes: &[u8]) -> bool
+    ensures fits { λ r. ⌜ r ≡ leb (length (now (bytes .entry))) (length (now (place .entry))) ⌝ }
+    ensures after { λ r. ⌜ now (place .exit) ≡ cond r (now (bytes .entry) ++ drop (length (now (bytes .entry))) (now (place .entry))) (now (place .entry)) ⌝ }
+{
+    if bytes.len() > place.len() {
+        return false;
+    }
+    place[0..bytes.len()].copy_from_slice(bytes);
+    true
+}
 
 pub fn same(a: &[u8], b: &[u8]) -> bool
     ensures { λ r. ⌜ r ≡ sameBytes (now (a .entry)) (now (b .entry)) ⌝ }
