@@ -1,0 +1,3 @@
+pub mod Blobs
+pub mod Heads
+pub mod Readings
