@@ -1,0 +1,2 @@
+// From shards to a block or a fault.
+pub mod keep;
