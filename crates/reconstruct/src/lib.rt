@@ -1,2 +1,4 @@
 // From shards to a block or a fault.
+pub mod error;
 pub mod keep;
+pub mod open;
