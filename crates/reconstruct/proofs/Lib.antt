@@ -1,2 +1,3 @@
+mod Gathering
 mod Opening
 mod Passing

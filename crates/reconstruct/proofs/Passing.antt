@@ -51,7 +51,8 @@ module _ {X : Type 0} {xs ys : List X} {vs : List Bool} {k i : ℕ} (p : Passing
         rest = same-rest;
         behind = omega (arith, p .behind);
         within = omega arith;
-        long = p .long }
+        long = p .long;
+      }
 
   pub passing-yes : getD vs i false ≡ true → Passing xs (set ys k (getD ys i d)) vs (k + 1) (i + 1)
   passing-yes e =
@@ -64,4 +65,5 @@ module _ {X : Type 0} {xs ys : List X} {vs : List Bool} {k i : ℕ} (p : Passing
         rest = drop-set-lt (i + 1) ys k (getD ys i d) low ∙ same-rest;
         behind = omega (arith, p .behind);
         within = omega arith;
-        long = length-set ys k (getD ys i d) ∙ p .long }
+        long = length-set ys k (getD ys i d) ∙ p .long;
+      }

@@ -1,4 +1,5 @@
 // From shards to a block or a fault.
 pub mod error;
+pub mod gather;
 pub mod keep;
 pub mod open;

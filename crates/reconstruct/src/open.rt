@@ -3,7 +3,7 @@ ghost use mathlib.Core.List.{map};
 ghost use mathlib.Core.Path.{_≡_};
 ghost use lib.ListN.{length};
 ghost use Rattle.reconstruct.specs.Rebuilt.{rebuilt, written};
-ghost use Rattle.register.specs.Commitments.{config-of, root-of};
+ghost use Rattle.register.specs.Commitments.{under};
 ghost use Rattle.scheme.specs.Pieces.{indexed};
 use crate::error::Error;
 use crate::error::ErrorFromFault;
@@ -25,8 +25,8 @@ pub fn open<D: Hash, S: Scheme, K: Kind>(
     shards: &[Piece<'_>],
     place: &mut [u8],
 ) -> Result<Reading, Error>
-    ensures gives { λ r. ⌜ r ≡ rebuilt (D·Hash .digest (now (hash .entry))) (K·Kind .reads (now (kind .entry)) (D·Hash .digest (now (hash .entry)))) (now (commitment .entry) .bytes) (S·Scheme .opens (now (scheme .entry)) (D·Hash .digest (now (hash .entry))) (config-of (now (commitment .entry) .bytes)) (root-of (now (commitment .entry) .bytes)) (length (now (place .entry))) (map indexed (now (shards .entry)))) ⌝ }
-    ensures writes { λ _. ⌜ now (place .exit) ≡ written (S·Scheme .opens (now (scheme .entry)) (D·Hash .digest (now (hash .entry))) (config-of (now (commitment .entry) .bytes)) (root-of (now (commitment .entry) .bytes)) (length (now (place .entry))) (map indexed (now (shards .entry)))) (now (place .entry)) ⌝ }
+    ensures gives { λ r. ⌜ r ≡ rebuilt (D·Hash .digest (now (hash .entry))) (K·Kind .reads (now (kind .entry)) (D·Hash .digest (now (hash .entry)))) (now (commitment .entry) .bytes) (under (S·Scheme .opens (now (scheme .entry)) (D·Hash .digest (now (hash .entry)))) (now (commitment .entry) .bytes) (length (now (place .entry))) (map indexed (now (shards .entry)))) ⌝ }
+    ensures writes { λ _. ⌜ now (place .exit) ≡ written (under (S·Scheme .opens (now (scheme .entry)) (D·Hash .digest (now (hash .entry)))) (now (commitment .entry) .bytes) (length (now (place .entry))) (map indexed (now (shards .entry)))) (now (place .entry)) ⌝ }
 {
     let len = scheme.decode(hash, commitment.config(), commitment.root(), shards, place)?;
     let reading = fit(hash, kind, commitment, &place[0..len])?;

@@ -28,6 +28,10 @@ config-at bytes i = record { minimum = word bytes i 2; extra = word bytes (i + 2
 abbrev pub config-of : List ℕ → Config
 config-of bytes = config-at bytes 96
 
+-- what a config and a coding root decide, asked of a commitment
+abbrev pub under : {A : Type 0} → (Config → List ℕ → A) → List ℕ → A
+under f bytes = f (config-of bytes) (root-of bytes)
+
 -- what 100 bytes are read as; of two zero halves the minimum is named
 abbrev pub committed : List ℕ → Result (List ℕ) Malformed
 committed bytes =

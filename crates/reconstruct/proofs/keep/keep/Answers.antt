@@ -16,9 +16,10 @@ pub loop-i-again : need.loop-i-again
 loop-i-again c =
     let h : c .loop-i .i < length (c .args .shards .now) = omega arith in
     let n : c .loop-i .i < length (c .args .verdicts .now) = omega arith in
-    elim (c .if-verdicts-i .came)
-    [ then-verdicts-i w ↦ rw (w .shards-is, w .count-is) (passing-yes (c .loop-i .inv) h n _ (w .if-verdicts-i .taken))
-    | else-verdicts-i w ↦ rw (w .shards-is, w .count-is) (passing-no (c .loop-i .inv) h n blank (w .if-verdicts-i .left)) ]
+    elim (c .if-verdicts-i .came) [
+      | then-verdicts-i w ↦ rw (w .shards-is, w .count-is) (passing-yes (c .loop-i .inv) h n _ (w .if-verdicts-i .taken))
+      | else-verdicts-i w ↦ rw (w .shards-is, w .count-is) (passing-no (c .loop-i .inv) h n blank (w .if-verdicts-i .left))
+    ]
 
 pub returns : need.returns
 returns c =
