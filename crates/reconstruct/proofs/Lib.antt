@@ -1,3 +1,4 @@
+mod Ending
 mod Gathering
 mod Opening
 mod Passing

@@ -1,3 +1,4 @@
 pub mod Gathered
+pub mod Outcomes
 pub mod Passed
 pub mod Rebuilt

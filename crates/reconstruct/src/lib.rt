@@ -3,3 +3,5 @@ pub mod error;
 pub mod gather;
 pub mod keep;
 pub mod open;
+pub mod outcome;
+pub mod reconstruct;
