@@ -1,0 +1,2 @@
+// The shard file: what reached a node for one block, as text that a person can write and read.
+pub mod hex;
