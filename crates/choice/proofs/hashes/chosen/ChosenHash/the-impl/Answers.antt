@@ -1,0 +1,9 @@
+use Rattle.sha256.proofs.Digests as sha256
+use Rattle.choice.specs.declared.hashes.HashChoice.the-variants.{Sha256}
+use Rattle.choice.proofs.hashes.chosen.ChosenHash.the-impl.Needs as need
+
+pub long-law : need.long-law
+long-law Sha256 m = sha256.digest-long m
+
+pub bytes-law : need.bytes-law
+bytes-law Sha256 m k = sha256.digest-bytes m k

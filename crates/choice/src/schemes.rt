@@ -1,0 +1,8 @@
+// The scheme that was chosen.
+
+#[derive(Clone, Copy)]
+pub enum SchemeChoice {
+    Copy,
+}
+
+pub mod chosen;

@@ -1,0 +1,7 @@
+use mathlib.Core.Path.{refl}
+use Rattle.sha256.specs.Fips180.{Maj}
+use Rattle.sha256.proofs.words.maj.Needs as need
+
+pub returns : need.returns
+unfolding Maj
+returns c = refl
