@@ -1,0 +1,81 @@
+// covasluk: opens a block from the shards that reached a node, and prints what it did.
+mod print;
+
+use examine::examine;
+use print::print_outcome;
+use print::print_shards;
+use shardfile::parse::parse;
+use shardfile::show::LineFaultDisplay;
+use std::alloc::Global;
+use std::env;
+use std::env::Args;
+use std::error::AnyError;
+use std::fs;
+
+fn usage(rt: &LibcRuntime) -> Result<(), AnyError> {
+    println!(rt, "usage: covasluk open FILE..")?;
+    println!(
+        rt,
+        "  Opens a block from the shards in each file. A file is text, one thing to a line:"
+    )?;
+    println!(rt, "    hash NAME        the hash (sha-256)")?;
+    println!(rt, "    scheme NAME      the coding scheme (copy)")?;
+    println!(rt, "    kind NAME        the block kind (plain)")?;
+    println!(
+        rt,
+        "    limit N          the largest blob in bytes, 1 to 16384 (16384)"
+    )?;
+    println!(
+        rt,
+        "    commitment HEX   block digest, coding root, context digest, minimum, extra"
+    )?;
+    println!(rt, "    shard INDEX SENDER HEX")?;
+    println!(
+        rt,
+        "  HEX may be cut by spaces; what stands behind a # is a comment."
+    )?;
+    Ok(())
+}
+
+fn open(rt: &LibcRuntime, path: &str) -> Result<(), AnyError> {
+    let text = fs::read_to_string(rt, path)?;
+    match parse(rt.alloc(), text.as_str()) {
+        Ok(file) => {
+            let examined = examine(rt.alloc(), &file)?;
+            println!(rt, "file {path}")?;
+            print_shards(rt, &file, &examined)?;
+            print_outcome(rt, &file, &examined)
+        }
+        Err(fault) => {
+            eprintln!(rt, "{path}: {fault}")?;
+            Err("the file cannot be read".into())
+        }
+    }
+}
+
+fn open_all(rt: &LibcRuntime, paths: Args<Global>) -> Result<(), AnyError> {
+    if paths.len() == 0 {
+        return Err("open takes a file".into());
+    }
+    for path in paths {
+        open(rt, path.as_str())?;
+    }
+    Ok(())
+}
+
+fn run(rt: &LibcRuntime) -> Result<(), AnyError> {
+    let mut words = env::args(rt)?;
+    let _program = words.next();
+    let Some(command) = words.next() else {
+        return usage(rt);
+    };
+    match command.as_str() {
+        "--help" => usage(rt),
+        "open" => open_all(rt, words),
+        _ => Err("no such command: covasluk --help tells".into()),
+    }
+}
+
+fn main(rt: LibcRuntime) -> Result<(), AnyError> {
+    rt.report(run(&rt))
+}
