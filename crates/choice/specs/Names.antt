@@ -6,7 +6,7 @@ use lib.Chars.{codes}
 use Rattle.std.specs.declared.option.Option.{Option}
 use Rattle.std.specs.declared.option.Option.the-variants.{None, Some}
 use Rattle.choice.specs.declared.hashes.HashChoice.{HashChoice}
-use Rattle.choice.specs.declared.hashes.HashChoice.the-variants.{Sha256}
+use Rattle.choice.specs.declared.hashes.HashChoice.the-variants.{Sha256, Sha3}
 use Rattle.choice.specs.declared.kinds.KindChoice.{KindChoice}
 use Rattle.choice.specs.declared.kinds.KindChoice.the-variants.{Plain}
 use Rattle.choice.specs.declared.schemes.SchemeChoice.{SchemeChoice}
@@ -14,6 +14,7 @@ use Rattle.choice.specs.declared.schemes.SchemeChoice.the-variants.{Copy}
 
 abbrev pub hash-name : HashChoice → List ℕ
 hash-name Sha256 = codes "sha-256"
+hash-name Sha3 = codes "sha3-256"
 
 abbrev pub scheme-name : SchemeChoice → List ℕ
 scheme-name Copy = codes "copy"

@@ -3,6 +3,7 @@
 #[derive(Clone, Copy)]
 pub enum HashChoice {
     Sha256,
+    Sha3,
 }
 
 pub mod chosen;

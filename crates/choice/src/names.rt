@@ -11,6 +11,7 @@ impl HashChoice {
     {
         match name {
             "sha-256" => Some(HashChoice::Sha256),
+            "sha3-256" => Some(HashChoice::Sha3),
             _ => None,
         }
     }
@@ -20,6 +21,7 @@ impl HashChoice {
     {
         match self {
             HashChoice::Sha256 => "sha-256",
+            HashChoice::Sha3 => "sha3-256",
         }
     }
 }

@@ -18,7 +18,7 @@ fn usage(rt: &LibcRuntime) -> Result<(), AnyError> {
         rt,
         "  Opens a block from the shards in each file. A file is text, one thing to a line:"
     )?;
-    println!(rt, "    hash NAME        the hash (sha-256)")?;
+    println!(rt, "    hash NAME        sha-256 or sha3-256 (sha-256)")?;
     println!(rt, "    scheme NAME      the coding scheme (copy)")?;
     println!(rt, "    kind NAME        the block kind (plain)")?;
     println!(

@@ -11,6 +11,8 @@ use cases::parse_case;
 use hash::Hash;
 use messages::pattern_of;
 use messages::repeat;
+use sha3::Sha3;
+use sha3::Sha3Hash;
 use sha256::Sha256;
 use sha256::Sha256Hash;
 use std::alloc::AllocError;
@@ -125,7 +127,8 @@ fn report_cases<D: Hash>(
 
 fn run(rt: &LibcRuntime) -> Result<(), AnyError> {
     let text = fs::read_to_string(rt, "digests.txt")?;
-    report_cases(rt, &Sha256, "sha256", "SHA-256", text.as_str())
+    report_cases(rt, &Sha256, "sha-256", "SHA-256", text.as_str())?;
+    report_cases(rt, &Sha3, "sha3-256", "SHA3-256", text.as_str())
 }
 
 fn main(rt: LibcRuntime) -> Result<(), AnyError> {

@@ -1,0 +1,5 @@
+pub mod Absorbing
+pub mod Examples
+pub mod Padding
+pub mod Reading
+pub mod Squeezing
