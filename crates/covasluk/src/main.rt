@@ -1,7 +1,12 @@
 // covasluk: opens a block from the shards that reached a node, and prints what it did.
 mod print;
 
+use choice::hashes::HashChoice;
+use choice::hashes::chosen::ChosenHash;
 use examine::examine;
+use hash::Hash;
+use print::Hex;
+use print::HexDisplay;
 use print::print_outcome;
 use print::print_shards;
 use shardfile::parse::parse;
@@ -63,6 +68,16 @@ fn open_all(rt: &LibcRuntime, paths: Args<Global>) -> Result<(), AnyError> {
     Ok(())
 }
 
+// A file's digest, as sha256sum and its kin print it.
+fn print_hash(rt: &LibcRuntime, name: &str, path: &str) -> Result<(), AnyError> {
+    let Some(hash) = HashChoice::from_name(name) else {
+        return Err("no such hash: covasluk --help lists them".into());
+    };
+    let bytes = fs::read(rt, path)?;
+    println!(rt, "{}  {path}", Hex(&hash.hash(bytes.as_slice())))?;
+    Ok(())
+}
+
 fn run(rt: &LibcRuntime) -> Result<(), AnyError> {
     let mut words = env::args(rt)?;
     let _program = words.next();
@@ -72,6 +87,10 @@ fn run(rt: &LibcRuntime) -> Result<(), AnyError> {
     match command.as_str() {
         "--help" => usage(rt),
         "open" => open_all(rt, words),
+        "hash" => match (words.next(), words.next()) {
+            (Some(name), Some(path)) => print_hash(rt, name.as_str(), path.as_str()),
+            _ => Err("hash takes a name and a file".into()),
+        },
         _ => Err("no such command: covasluk --help tells".into()),
     }
 }

@@ -12,9 +12,9 @@ use std::fmt;
 
 // Bytes as hexadecimal digits.
 #[derive(Clone, Copy)]
-struct Hex<'a>(&'a [u8]);
+pub struct Hex<'a>(pub &'a [u8]);
 
-impl fmt::Display for Hex<'_> as HexDisplay {
+pub impl fmt::Display for Hex<'_> as HexDisplay {
     fn fmt<W: fmt::Write>(&self, f: &mut fmt::Formatter<W>) -> fmt::Result {
         for byte in self.0 {
             write!(f, "{byte:02x}")?;

@@ -3,4 +3,5 @@ pub mod bytes;
 pub mod commitment;
 pub mod counters;
 pub mod key;
+pub mod ordered;
 pub mod words;
