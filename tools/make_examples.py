@@ -141,7 +141,7 @@ def main():
     os.makedirs(f"{CRATE}/data", exist_ok=True)
     for old in os.listdir(f"{CRATE}/data"):
         os.remove(f"{CRATE}/data/{old}")
-    files = [copies(h, k) for h in HASHES for k in ("plain",)]
+    files = [copies(h, k) for h in HASHES for k in ("plain", "listed")]
     files += [too_few()] + misfits() + [too_long()]
     for f in files:
         with open(f"{CRATE}/data/{f.name}", "w") as out:

@@ -1,3 +1,5 @@
 pub mod Blobs
+pub mod Exact
 pub mod Heads
 pub mod Readings
+pub mod Written

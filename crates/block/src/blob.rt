@@ -9,4 +9,5 @@ pub enum Misfit {
     ContextMismatch,
 }
 
+pub mod exact;
 pub mod fit;

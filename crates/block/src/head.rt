@@ -7,4 +7,5 @@ pub struct Head {
     pub height: Height,
 }
 
+pub mod exact;
 pub mod read;

@@ -11,10 +11,11 @@ use Rattle.scheme.specs.Told.{Opened}
 use Rattle.copy.specs.Copies.{copy-good, copy-opens}
 use Rattle.block.specs.declared.kind.Reading.{Reading}
 use Rattle.plain.specs.Plains.{plain-reads}
+use Rattle.listed.specs.Listeds.{listed-reads}
 use Rattle.choice.specs.declared.hashes.HashChoice.{HashChoice}
 use Rattle.choice.specs.declared.hashes.HashChoice.the-variants.{Sha256, Sha3}
 use Rattle.choice.specs.declared.kinds.KindChoice.{KindChoice}
-use Rattle.choice.specs.declared.kinds.KindChoice.the-variants.{Plain}
+use Rattle.choice.specs.declared.kinds.KindChoice.the-variants.{Plain, Listed}
 use Rattle.choice.specs.declared.schemes.SchemeChoice.{SchemeChoice}
 use Rattle.choice.specs.declared.schemes.SchemeChoice.the-variants.{Copy}
 
@@ -30,3 +31,4 @@ opens-by Copy digest config root = copy-opens
 
 abbrev pub reads-by : KindChoice → (List ℕ → List ℕ) → List ℕ → Option Reading
 reads-by Plain = plain-reads
+reads-by Listed = listed-reads

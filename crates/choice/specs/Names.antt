@@ -8,7 +8,7 @@ use Rattle.std.specs.declared.option.Option.the-variants.{None, Some}
 use Rattle.choice.specs.declared.hashes.HashChoice.{HashChoice}
 use Rattle.choice.specs.declared.hashes.HashChoice.the-variants.{Sha256, Sha3}
 use Rattle.choice.specs.declared.kinds.KindChoice.{KindChoice}
-use Rattle.choice.specs.declared.kinds.KindChoice.the-variants.{Plain}
+use Rattle.choice.specs.declared.kinds.KindChoice.the-variants.{Plain, Listed}
 use Rattle.choice.specs.declared.schemes.SchemeChoice.{SchemeChoice}
 use Rattle.choice.specs.declared.schemes.SchemeChoice.the-variants.{Copy}
 
@@ -21,6 +21,7 @@ scheme-name Copy = codes "copy"
 
 abbrev pub kind-name : KindChoice → List ℕ
 kind-name Plain = codes "plain"
+kind-name Listed = codes "listed"
 
 -- the choice of that name, or none where none has it
 abbrev pub Named : {C : Type 0} → (C → List ℕ) → List ℕ → Option C → Type 0

@@ -3,6 +3,7 @@
 #[derive(Clone, Copy)]
 pub enum KindChoice {
     Plain,
+    Listed,
 }
 
 pub mod chosen;

@@ -51,6 +51,7 @@ impl KindChoice {
     {
         match name {
             "plain" => Some(KindChoice::Plain),
+            "listed" => Some(KindChoice::Listed),
             _ => None,
         }
     }
@@ -60,6 +61,7 @@ impl KindChoice {
     {
         match self {
             KindChoice::Plain => "plain",
+            KindChoice::Listed => "listed",
         }
     }
 }

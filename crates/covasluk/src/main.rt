@@ -25,7 +25,7 @@ fn usage(rt: &LibcRuntime) -> Result<(), AnyError> {
     )?;
     println!(rt, "    hash NAME        sha-256 or sha3-256 (sha-256)")?;
     println!(rt, "    scheme NAME      the coding scheme (copy)")?;
-    println!(rt, "    kind NAME        the block kind (plain)")?;
+    println!(rt, "    kind NAME        plain or listed (plain)")?;
     println!(
         rt,
         "    limit N          the largest blob in bytes, 1 to 16384 (16384)"

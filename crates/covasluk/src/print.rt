@@ -2,9 +2,11 @@
 use block::blob::Misfit;
 use block::head::Head;
 use block::kind::Reading;
+use choice::kinds::KindChoice;
 use examine::Examined;
 use reconstruct::error::Error;
 use reconstruct::outcome::Outcome;
+use register::words::read_u16;
 use scheme::fault::Fault;
 use shardfile::file::ShardFile;
 use std::error::AnyError;
@@ -87,11 +89,10 @@ fn print_block(
     println!(rt, "  context  {}", Hex(context))?;
     println!(rt, "  parent   {}", Hex(parent))?;
     println!(rt, "  height   {}", head.height.0)?;
-    println!(
-        rt,
-        "  payload  {} bytes",
-        reading.len.saturating_sub(n + 43)
-    )?;
+    match file.kind {
+        KindChoice::Plain => println!(rt, "  payload  {} bytes", reading.len.saturating_sub(n + 43))?,
+        KindChoice::Listed => println!(rt, "  entries  {}", read_u16(place, n + 41).unwrap_or(0))?,
+    }
     println!(rt, "  digest   {}", Hex(&reading.digest))?;
     Ok(())
 }

@@ -7,6 +7,8 @@ use block::kind::kinds::Kind;
 use hash::Hash;
 use register::words::read_u16;
 
+pub mod exact;
+
 #[derive(Clone, Copy)]
 pub struct Plain;
 

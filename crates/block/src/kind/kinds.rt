@@ -2,7 +2,7 @@
 ghost use Prim.Native.Nat.{ℕ};
 ghost use mathlib.Core.List.{List};
 ghost use mathlib.Core.Path.{_≡_};
-ghost use Rattle.block.specs.Readings.{Inside};
+ghost use Rattle.block.specs.Readings.{Alone, Inside};
 ghost use Rattle.block.specs.declared.kind.Reading.{Reading};
 ghost use Rattle.std.specs.declared.option.Option.{Option};
 use crate::kind::Reading;
@@ -13,6 +13,8 @@ pub trait Kind {
     ghost reads: { Self → (List ℕ → List ℕ) → List ℕ → Option Reading };
 
     law inside: { (k : Self) (digest : List ℕ → List ℕ) (blob : List ℕ) → Inside blob (reads k digest blob) };
+
+    law alone: { (k : Self) (digest : List ℕ → List ℕ) → Alone (reads k digest) };
 
     fn read<D: Hash>(&self, hash: &D, blob: &[u8]) -> Option<Reading>
         ensures { λ r. ⌜ r ≡ reads (now (self .entry)) (D·Hash .digest (now (hash .entry))) (now (blob .entry)) ⌝ };

@@ -4,6 +4,8 @@ use crate::kinds::KindChoice;
 use block::kind::Reading;
 use block::kind::kinds::Kind;
 use hash::Hash;
+use listed::Listed;
+use listed::ListedKind;
 use plain::Plain;
 use plain::PlainKind;
 
@@ -13,6 +15,7 @@ pub impl Kind for KindChoice as ChosenKind {
     fn read<D: Hash>(&self, hash: &D, blob: &[u8]) -> Option<Reading> {
         match self {
             KindChoice::Plain => Plain.read(hash, blob),
+            KindChoice::Listed => Listed.read(hash, blob),
         }
     }
 }
