@@ -90,7 +90,11 @@ fn print_block(
     println!(rt, "  parent   {}", Hex(parent))?;
     println!(rt, "  height   {}", head.height.0)?;
     match file.kind {
-        KindChoice::Plain => println!(rt, "  payload  {} bytes", reading.len.saturating_sub(n + 43))?,
+        KindChoice::Plain => println!(
+            rt,
+            "  payload  {} bytes",
+            reading.len.saturating_sub(n + 43)
+        )?,
         KindChoice::Listed => println!(rt, "  entries  {}", read_u16(place, n + 41).unwrap_or(0))?,
     }
     println!(rt, "  digest   {}", Hex(&reading.digest))?;

@@ -7,10 +7,10 @@ ghost use lib.ListN.{length};
 ghost use Rattle.sha256.specs.Fips180.{sha256};
 ghost use Rattle.sha3.specs.Fips202.{sha3-256};
 use hash::Hash;
-use sha256::Sha256;
-use sha256::Sha256Hash;
 use sha3::Sha3;
 use sha3::Sha3Hash;
+use sha256::Sha256;
+use sha256::Sha256Hash;
 
 // The SHA-256 digest of `first` followed by `second`, where `out` has 32 bytes; else false, and `out` stands as before.
 #[unsafe(no_mangle)]

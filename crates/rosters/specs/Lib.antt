@@ -1,0 +1,4 @@
+pub mod Enrolled
+pub mod Epochs
+pub mod Roster
+pub mod Sound
