@@ -4,7 +4,9 @@
 Every digest is from Python's hashlib, and every verdict is computed here from the rules in docs/RULES.md, with no use of
 the program. Run from the repository's root: python3 tools/make_examples.py
 """
+import functools
 import hashlib
+import operator
 import os
 
 CRATE = "crates/covasluk"
@@ -91,6 +93,102 @@ def copies(hash_name, kind):
     return f
 
 
+def parity_shards(digest, k, blob):
+    """The root and the k + 1 shards of a blob: payload, then the path of siblings, lowest first."""
+    size = -(-(len(blob) + 4) // k)
+    data = (len(blob).to_bytes(4, "big") + blob).ljust(k * size, b"\0")
+    payloads = [data[i * size:(i + 1) * size] for i in range(k)]
+    payloads.append(bytes(functools.reduce(operator.xor, column) for column in zip(*payloads)))
+    depth = (k).bit_length()
+    level = [digest(p) for p in payloads] + [bytes(32)] * (2 ** depth - k - 1)
+    paths = [b""] * (k + 1)
+    for height in range(depth):
+        paths = [path + level[(i >> height) ^ 1] for i, path in enumerate(paths)]
+        level = [digest(level[i] + level[i + 1]) for i in range(0, len(level), 2)]
+    return level[0], [p + path for p, path in zip(payloads, paths)]
+
+
+def parities(hash_name, kind):
+    """Three pieces and their exclusive or: one piece is damaged, and the others open the block."""
+    digest = lambda b: HASHES[hash_name](b).digest()
+    block = sample(kind, digest)
+    root, shards = parity_shards(digest, 3, block.bytes + bytes([0, 3, 0, 1]))
+    f = File(f"parity-{kind}-{hash_name}.shards", "three pieces and their exclusive or, one of them damaged",
+             hash_name, "parity", kind, 3, 1, block, root)
+    f.shard(3, "dave", shards[3], True, "the exclusive or")
+    f.shard(1, "bob", flip(shards[1], 5), False, "one bit is wrong")
+    f.shard(0, "alice", shards[0], True)
+    f.shard(2, "eve", shards[0], False, "another index's shard")
+    f.shard(2, "carol", shards[2], True)
+    f.opens(block)
+    return f
+
+
+def parity_fault(name, title, number, k, data, limit=None):
+    """Good shards of data that no blob has: the root covers them, and opening finds the fault."""
+    digest = lambda b: hashlib.sha256(b).digest()
+    block = sample("plain", digest)
+    size = len(data) // k
+    payloads = [data[i * size:(i + 1) * size] for i in range(k)]
+    leaves = [digest(p) for p in payloads] + [digest(bytes(functools.reduce(operator.xor, c) for c in zip(*payloads)))]
+    assert k == 1
+    root = digest(leaves[0] + leaves[1])
+    f = File(name, title, "sha-256", "parity", "plain", k, 1, block, root)
+    if limit:
+        f.lines.insert(4, f"limit {limit}")
+    f.shard(0, "alice", payloads[0] + leaves[1], True)
+    f.ends(f"fault: Coding({number})")
+    return f
+
+
+def parity_faults():
+    return [
+        parity_fault("bad-length.shards", "a length in front that the payload cannot have", "BadLength 3", 1, bytes([0, 0, 0, 9, 1, 2])),
+        parity_fault("short-data.shards", "data under four bytes", "BadLength 3", 1, bytes([0, 0, 0])),
+        parity_fault("parity-too-long.shards", "a blob over the limit", "TooLong 5", 1, bytes([0, 0, 0, 6]) + b"shards", limit=5),
+    ]
+
+
+def uneven():
+    """Two good shards of different lengths: the tree is over payloads of two sizes."""
+    digest = lambda b: hashlib.sha256(b).digest()
+    block = sample("plain", digest)
+    payloads = [b"abcdef", b"abcd", b"zz"]
+    leaves = [digest(p) for p in payloads] + [bytes(32)]
+    nodes = [digest(leaves[0] + leaves[1]), digest(leaves[2] + leaves[3])]
+    f = File("uneven.shards", "payloads of different lengths", "sha-256", "parity", "plain", 2, 1, block, digest(nodes[0] + nodes[1]))
+    f.shard(0, "alice", payloads[0] + leaves[1] + nodes[1], True)
+    f.shard(1, "bob", payloads[1] + leaves[0] + nodes[1], True)
+    f.ends("fault: Coding(Uneven 2)")
+    return f
+
+
+def padding():
+    """A byte behind the blob that is not zero: length 1, so that two pieces of 3 bytes leave one byte of padding."""
+    digest = lambda b: hashlib.sha256(b).digest()
+    block = sample("plain", digest)
+    data = bytes([0, 0, 0, 1, 65, 7])
+    payloads = [data[:3], data[3:], bytes(a ^ b for a, b in zip(data[:3], data[3:]))]
+    leaves = [digest(p) for p in payloads] + [bytes(32)]
+    nodes = [digest(leaves[0] + leaves[1]), digest(leaves[2] + leaves[3])]
+    f = File("padding.shards", "padding that is not zero", "sha-256", "parity", "plain", 2, 1, block, digest(nodes[0] + nodes[1]))
+    f.shard(1, "bob", payloads[1] + leaves[0] + nodes[1], True)
+    f.shard(2, "carol", payloads[2] + leaves[3] + nodes[0], True)
+    f.ends("fault: Coding(Padding 4)")
+    return f
+
+
+def never_parity():
+    """Two spares: no shard is good under parity then."""
+    digest = lambda b: hashlib.sha256(b).digest()
+    block = sample("plain", digest)
+    root, shards = parity_shards(digest, 3, block.bytes + bytes([0, 3, 0, 2]))
+    f = File("two-spares.shards", "a config that parity has no shards for", "sha-256", "parity", "plain", 3, 2, block, root)
+    f.shard(0, "alice", shards[0], False)
+    f.ends("not opened: 0 good, and the minimum is 3")
+    return f
+
+
 def too_few():
     digest = lambda b: hashlib.sha256(b).digest()
     block = sample("plain", digest)
@@ -142,6 +240,8 @@ def main():
     for old in os.listdir(f"{CRATE}/data"):
         os.remove(f"{CRATE}/data/{old}")
     files = [copies(h, k) for h in HASHES for k in ("plain", "listed")]
+    files += [parities(h, k) for h in HASHES for k in ("plain", "listed")]
+    files += parity_faults() + [uneven(), padding(), never_parity()]
     files += [too_few()] + misfits() + [too_long()]
     for f in files:
         with open(f"{CRATE}/data/{f.name}", "w") as out:

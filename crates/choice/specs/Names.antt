@@ -10,7 +10,7 @@ use Rattle.choice.specs.declared.hashes.HashChoice.the-variants.{Sha256, Sha3}
 use Rattle.choice.specs.declared.kinds.KindChoice.{KindChoice}
 use Rattle.choice.specs.declared.kinds.KindChoice.the-variants.{Plain, Listed}
 use Rattle.choice.specs.declared.schemes.SchemeChoice.{SchemeChoice}
-use Rattle.choice.specs.declared.schemes.SchemeChoice.the-variants.{Copy}
+use Rattle.choice.specs.declared.schemes.SchemeChoice.the-variants.{Copy, Parity}
 
 abbrev pub hash-name : HashChoice → List ℕ
 hash-name Sha256 = codes "sha-256"
@@ -18,6 +18,7 @@ hash-name Sha3 = codes "sha3-256"
 
 abbrev pub scheme-name : SchemeChoice → List ℕ
 scheme-name Copy = codes "copy"
+scheme-name Parity = codes "parity"
 
 abbrev pub kind-name : KindChoice → List ℕ
 kind-name Plain = codes "plain"

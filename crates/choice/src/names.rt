@@ -32,6 +32,7 @@ impl SchemeChoice {
     {
         match name {
             "copy" => Some(SchemeChoice::Copy),
+            "parity" => Some(SchemeChoice::Parity),
             _ => None,
         }
     }
@@ -41,6 +42,7 @@ impl SchemeChoice {
     {
         match self {
             SchemeChoice::Copy => "copy",
+            SchemeChoice::Parity => "parity",
         }
     }
 }

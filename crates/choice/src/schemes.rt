@@ -3,6 +3,7 @@
 #[derive(Clone, Copy)]
 pub enum SchemeChoice {
     Copy,
+    Parity,
 }
 
 pub mod chosen;

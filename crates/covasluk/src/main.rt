@@ -24,7 +24,7 @@ fn usage(rt: &LibcRuntime) -> Result<(), AnyError> {
         "  Opens a block from the shards in each file. A file is text, one thing to a line:"
     )?;
     println!(rt, "    hash NAME        sha-256 or sha3-256 (sha-256)")?;
-    println!(rt, "    scheme NAME      the coding scheme (copy)")?;
+    println!(rt, "    scheme NAME      copy or parity (copy)")?;
     println!(rt, "    kind NAME        plain or listed (plain)")?;
     println!(
         rt,

@@ -4,6 +4,8 @@ use crate::schemes::SchemeChoice;
 use copy::Copies;
 use copy::CopyScheme;
 use hash::Hash;
+use parity::scheme::Parity;
+use parity::scheme::ParityScheme;
 use register::commitment::Config;
 use scheme::fault::Fault;
 use scheme::piece::Piece;
@@ -24,6 +26,7 @@ pub impl Scheme for SchemeChoice as ChosenScheme {
     ) -> bool {
         match self {
             SchemeChoice::Copy => Copies.check(hash, config, root, limit, shard),
+            SchemeChoice::Parity => Parity.check(hash, config, root, limit, shard),
         }
     }
 
@@ -37,6 +40,7 @@ pub impl Scheme for SchemeChoice as ChosenScheme {
     ) -> Result<usize, Fault> {
         match self {
             SchemeChoice::Copy => Copies.decode(hash, config, root, shards, place),
+            SchemeChoice::Parity => Parity.decode(hash, config, root, shards, place),
         }
     }
 }

@@ -1,0 +1,11 @@
+-- The bytes so far stand at the front, and the rest as it was.
+use mathlib.Core.List.{map}
+use mathlib.Core.Path.{_≡_}
+use denote.Ref.{now}
+use lib.ListN.{drop}
+use lib.Seq.{paste}
+use Rattle.parity.specs.Parities.{framing}
+use Rattle.parity.proofs.framing.write.Given as given
+
+abbrev pub Inv-loop-i : given.InvT-loop-i
+Inv-loop-i l = l .place ≡ paste (l .entry .place) 0 (drop 4 (framing (l .width) (map now (l .picks)))) (l .i)
