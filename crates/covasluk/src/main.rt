@@ -3,7 +3,7 @@ mod print;
 
 use choice::hashes::HashChoice;
 use choice::hashes::chosen::ChosenHash;
-use examine::examine;
+use examine::file::examine;
 use hash::Hash;
 use print::Hex;
 use print::HexDisplay;

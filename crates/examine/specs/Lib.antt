@@ -1,0 +1,2 @@
+pub mod Arrived
+pub mod Examines
