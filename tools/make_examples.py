@@ -10,6 +10,7 @@ import operator
 import os
 
 CRATE = "crates/covasluk"
+DEFAULTS = ("sha-256", "copy", "plain")
 HASHES = {"sha-256": hashlib.sha256, "sha3-256": hashlib.sha3_256}
 
 
@@ -33,7 +34,7 @@ class Block:
 
 
 def wrapped(data):
-    text = data.hex()
+    text = data.hex() if len(data) % 2 else data.hex().upper()
     return " ".join(text[i:i + 64] for i in range(0, len(text), 64))
 
 
@@ -49,8 +50,8 @@ class File:
         self.name = name
         self.parts = [block.digest, root, digest(block.context)]
         commitment = " ".join([p.hex() for p in self.parts] + [f"{minimum:04x}", f"{extra:04x}"])
-        self.lines = [f"# {title}", f"hash {hash_name}", f"scheme {scheme}", f"kind {kind}",
-                      f"# block digest, coding root, context digest, minimum {minimum}, extra {extra}",
+        names = [] if (hash_name, scheme, kind) == DEFAULTS else [f"hash {hash_name}", f"scheme {scheme}", f"kind {kind}"]
+        self.lines = [f"# {title}"] + names + [f"# block digest, coding root, context digest, minimum {minimum}, extra {extra}",
                       f"commitment {commitment}"]
         self.shown = [f"file {name}", "commitment"]
         self.shown += [f"  {w:<8} {p.hex()}" for w, p in zip(("block", "root", "context"), self.parts)]
@@ -135,7 +136,7 @@ def parity_fault(name, title, number, k, data, limit=None):
     root = digest(leaves[0] + leaves[1])
     f = File(name, title, "sha-256", "parity", "plain", k, 1, block, root)
     if limit:
-        f.lines.insert(4, f"limit {limit}")
+        f.lines.insert(1, f"limit {limit}")
     f.shard(0, "alice", payloads[0] + leaves[1], True)
     f.ends(f"fault: Coding({number})")
     return f
@@ -229,7 +230,7 @@ def too_long():
     block = sample("plain", digest)
     blob = block.bytes + bytes([0, 1, 0, 1])
     f = File("too-long.shards", "a blob over the limit", "sha-256", "copy", "plain", 1, 1, block, digest(blob))
-    f.lines.insert(4, "limit 64")
+    f.lines.insert(1, "limit 64")
     f.shard(0, "alice", blob, True)
     f.ends("fault: Coding(TooLong 5)")
     return f

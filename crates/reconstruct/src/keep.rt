@@ -6,7 +6,7 @@ ghost use Rattle.reconstruct.specs.Passed.{passed};
 use scheme::piece::Piece;
 
 // Moves the shards whose verdict is good to the front, in their order, and counts them.
-pub fn keep(shards: &mut [Piece<'_>], verdicts: &[bool]) -> usize
+pub(crate) fn keep(shards: &mut [Piece<'_>], verdicts: &[bool]) -> usize
     requires { ⌜ length (now shards) ≤ length (now verdicts) ⌝ }
     ensures keeps { λ r. ⌜ take r (now (shards .exit)) ≡ passed (now (shards .entry)) (now (verdicts .entry)) ⌝ }
     ensures counts { λ r. ⌜ r ≡ length (passed (now (shards .entry)) (now (verdicts .entry))) ⌝ }

@@ -1,7 +1,7 @@
 // From shards to a block or a fault.
 pub mod error;
 pub mod gather;
-pub mod keep;
+mod keep;
 pub mod open;
 pub mod outcome;
 pub mod reconstruct;
