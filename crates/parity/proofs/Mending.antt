@@ -1,12 +1,12 @@
 -- Any k shards of a blob, at distinct indices, open to it. Assumes nothing.
-use Prim.Native.Nat.{ℕ, zero, suc, _+_, _-_, _*_, _/_, _%_, _^_, _<_, _≤_}
-use mathlib.Core.Bool.{Bool, true, false, cond, not, _&&_, _||_}
-use mathlib.Core.List.{List, [], _∷_, _++_, map}
+use Prim.Native.Nat.{ℕ, _+_, _-_, _*_, _/_, _%_, _^_, _<_, _≤_}
+use mathlib.Core.Bool.{Bool, true, false, cond, not, _||_}
+use mathlib.Core.List.{List, [], _∷_, map}
 use mathlib.Core.Logic.{_⊎_, inl, inr, ⊎-elim}
 use mathlib.Core.Path.{_≡_, refl, sym, ap, subst, _∙_}
 use native.Mathlib.Nat.{zero-add}
 use native.Mathlib.Omega.{arith}
-use borrow.Author.Tests.{le-ltb, ne-eqb}
+use borrow.Author.Tests.{ne-eqb}
 use lib.Dec.{eqb}
 use lib.ListN.{drop, getD, length, take}
 use lib.Seq.{ext-getD, getD-drop, getD-take}
@@ -24,11 +24,11 @@ use Rattle.tree.proofs.Framed.{frame-opens, framed-long}
 use Rattle.tree.proofs.Standing.{front}
 use Rattle.tree.specs.Frames.{framed, piece-length, unframed}
 use Rattle.tree.specs.Laws.{Long}
-use Rattle.tree.specs.Trees.{depth, levels, payload, shard}
+use Rattle.tree.specs.Trees.{depth, payload, shard}
 use Rattle.parity.proofs.Erasing.{Partial, even-is, missing-is, width-is}
 use Rattle.parity.proofs.Indices.{as-many, has-within}
-use Rattle.parity.proofs.Making.{filled, levels-are, limited, payload-long, payloads-level, payloads-long, piece-is, shaped-is, thick, xored-all}
-use Rattle.parity.proofs.Reading.{framing-at, length-framing, positive}
+use Rattle.parity.proofs.Making.{filled, levels-are, limited, payload-long, payloads-long, piece-is, shaped-is, thick, xored-all}
+use Rattle.parity.proofs.Reading.{framing-at, length-framing}
 use Rattle.parity.proofs.Unframing.{evened}
 use Rattle.parity.specs.Codes.{distinct, has, made, payloads}
 use Rattle.parity.specs.Parities.{counted, empty, even, framing, mended, opened, parity-opens, pick, picks, shaped, width, xored}

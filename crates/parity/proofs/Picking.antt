@@ -1,7 +1,7 @@
 -- Loops over picks: folds, tests of each, and the search for one. Assumes nothing.
 use Prim.Native.Nat.{ℕ, _+_, _<_, _≤_}
-use mathlib.Core.Bool.{Bool, true, false, cond, not, _&&_, _||_}
-use mathlib.Core.List.{List, [], _∷_, _++_, map}
+use mathlib.Core.Bool.{true, false, cond, not, _&&_, _||_}
+use mathlib.Core.List.{List, [], map}
 use mathlib.Core.Path.{_≡_, refl, sym, ap, _∙_}
 use native.Mathlib.Nat.{add-zero, zero-add}
 use native.Mathlib.Omega.{arith}
@@ -11,7 +11,7 @@ use lib.Bits.{bitXor}
 use lib.Dec.{eqb}
 use lib.ListN.{drop, getD, length, length-set, set, take}
 use Rattle.std.proofs.shelf.Counted.{map-counting-more}
-use Rattle.std.proofs.shelf.Lists.{at-drop-all, at-drop-more, drop-map, getD-map, length-map, map-push, take-all, take-more-set}
+use Rattle.std.proofs.shelf.Lists.{at-drop-all, at-drop-more, getD-map, length-map, map-push, take-all, take-more-set}
 use Rattle.std.proofs.shelf.Sums.{folded-more}
 use Rattle.std.proofs.shelf.Tests.{and-right}
 use Rattle.std.specs.Iters.{counting}

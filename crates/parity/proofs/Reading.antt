@@ -1,28 +1,35 @@
 -- Reading the framed blob in picks of one length by position. Assumes nothing.
 use Prim.Native.Nat.{ℕ, zero, suc, _+_, _-_, _*_, _/_, _%_, _<_, _≤_}
-use mathlib.Core.Bool.{Bool, true, false, cond, not, _&&_, _||_}
+use mathlib.Core.Bool.{true, false, _||_}
 use mathlib.Core.List.{List, [], _∷_, _++_, map}
 use mathlib.Core.Logic.{⊎-elim}
-use mathlib.Core.Path.{_≡_, refl, sym, ap, subst, _∙_}
-use native.Mathlib.Nat.{add-assoc, le-of-suc-le-suc, mul-zero, suc-mul, zero-add, zero-mul}
+use mathlib.Core.Path.{_≡_, sym, ap, subst, _∙_}
+use native.Mathlib.Nat.{le-of-suc-le-suc, mul-zero, zero-add}
 use native.Mathlib.Omega.{arith}
+use borrow.Rule.Slice.PartMut.{putMid}
 use borrow.Author.Tests.{eq-eqb, ne-eqb}
 use lib.Dec.{eqb}
-use lib.ListN.{drop, getD, length, length-append, set, take}
-use lib.Seq.{getD-append-add, length-take-le, paste}
+use lib.ListN.{drop, getD, length, set, take}
+use lib.Seq.{length-take-le, paste, take-add}
 use Rattle.std.proofs.shelf.Bits.{div-add-mod', div-below, mod-below}
-use Rattle.std.proofs.shelf.Edits.{paste-more}
-use Rattle.std.proofs.shelf.Counted.{getD-map-counting, length-map-counting}
-use Rattle.std.proofs.shelf.Lists.{at-drop-all, at-drop-more, getD-append-left, getD-drop, getD-map, getD-take, length-drop, length-map}
-use Rattle.std.proofs.shelf.Tests.{and-parts, cases-bool, eqb-true, or-cases}
-use Rattle.std.specs.shelf.Lists.{joined}
-use Rattle.tree.proofs.Joining.{Level, getD-joined, length-joined}
+use Rattle.std.proofs.shelf.Edits.{drop-paste, fill-by-more, take-paste}
+use Rattle.std.proofs.shelf.Counted.{fill-by-all, getD-map-counting, length-map-counting}
+use Rattle.std.proofs.shelf.Lists.{append-assoc, at-drop-all, at-drop-more, drop-drop, drop-take, take-take, getD-drop, getD-map, getD-take, length-drop, length-map}
+use Rattle.std.proofs.shelf.Tests.{and-parts, cases-bool, cond-false, cond-true, eqb-true}
+use Rattle.std.specs.Iters.{counting}
+use Rattle.tree.proofs.Joining.{Level, getD-joined, length-joined, part-joined}
 use Rattle.tree.specs.Frames.{zeros}
 use Rattle.parity.specs.Parities.{empty, even, framing, mended, xored}
 
 pub positive : (s i n : ℕ) → i < n * s → 0 < s
 positive zero i n h = absurd (omega (arith, mul-zero n))
 positive (suc s) i n h = omega arith
+
+inner : (xs : List ℕ) (a b n w : ℕ) → b + n ≤ w → take n (drop (a + b) xs) ≡ take n (drop b (take w (drop a xs)))
+inner xs a b n w h =
+    let e : b + (w - b) ≡ w = omega arith in
+    let d : drop b (take w (drop a xs)) ≡ take (w - b) (drop b (drop a xs)) = subst (λ (m : ℕ). drop b (take m (drop a xs)) ≡ take (w - b) (drop b (drop a xs))) e (drop-take b (w - b) (drop a xs)) in
+    ap (take n) (sym (drop-drop b a xs)) ∙ sym (ap (take n) d ∙ take-take n (w - b) (drop b (drop a xs)) (omega arith))
 
 module _ (s : ℕ) (ps : List (List ℕ)) where
   mended-length : (p : List ℕ) → (empty p || eqb (length p) s) ≡ true → length (mended s ps p) ≡ s
@@ -63,12 +70,29 @@ module _ (s : ℕ) (ps : List (List ℕ)) where
           ∙ getD-joined (mended s ps) s [] (take (length ps - 1) ps) (i / s) (i % s) level k (mod-below i s some)
           ∙ rw (getD-take (length ps - 1) ps (i / s) [] piece)
 
+      pub run-is : (n : ℕ) → i % s + n ≤ s → take n (drop i (framing s ps)) ≡ take n (drop (i % s) (mended s ps (getD ps (i / s) [])))
+      run-is n r =
+          let k : i / s < length (take (length ps - 1) ps) = subst (λ (n : ℕ). i / s < n) (sym front) piece in
+          ap (λ (m : ℕ). take n (drop m (framing s ps))) (sym (div-add-mod' i s))
+          ∙ inner (framing s ps) (i / s * s) (i % s) n s r
+          ∙ ap (λ (p : List ℕ). take n (drop (i % s) p)) (part-joined (mended s ps) s [] (take (length ps - 1) ps) (i / s) level k ∙ rw (getD-take (length ps - 1) ps (i / s) [] piece))
+
       at-void : empty (getD ps (i / s) []) ≡ true → xored (i % s) ps ≡ getD (framing s ps) i 0
       at-void t =
           sym (framing-at ∙ simp t (getD-map-counting (λ i. xored i ps) 0 s (i % s) (i % s) 0 (mod-below i s some) (zero-add (i % s))))
 
       at-full : empty (getD ps (i / s) []) ≡ false → getD (getD ps (i / s) []) (i % s) 0 ≡ getD (framing s ps) i 0
       at-full t = sym (framing-at ∙ simp t)
+
+counted-part : (f : ℕ → ℕ) (s a n : ℕ) → a + n ≤ s → take n (drop a (map f (counting 0 s))) ≡ map (λ k. f (a + k)) (counting 0 n)
+counted-part f s a n h =
+    let l : length (map f (counting 0 s)) ≡ s = length-map-counting f 0 s in
+    let m : n ≤ length (drop a (map f (counting 0 s))) = simp (length-drop, l) (omega arith) in
+    fill-by-all (λ k. f (a + k)) (take n (drop a (map f (counting 0 s)))) n 0 (length-take-le n (drop a (map f (counting 0 s))) m)
+    (λ k b.
+    getD-take n (drop a (map f (counting 0 s))) k 0 b
+    ∙ getD-drop a (map f (counting 0 s)) k 0
+    ∙ getD-map-counting f 0 s (a + k) (a + k) 0 (omega arith) (zero-add (a + k)))
 
 module _ {X : Type 0} (f : X → List ℕ) (xs : List X) (s i : ℕ) (e : even s (map f xs) ≡ true) (h : i < (length xs - 1) * s) where
   within : i < (length (map f xs) - 1) * s
@@ -87,9 +111,6 @@ module _ {X : Type 0} (f : X → List ℕ) (xs : List X) (s i : ℕ) (e : even s
   byte-full z r t q =
       q ∙ ap (λ (p : List ℕ). getD p (i % s) 0) (sym (at z)) ∙ at-full s (map f xs) e i within (ap empty (at z) ∙ sym t)
 
-  pub byte-within : i < length (framing s (map f xs))
-  byte-within = omega (arith, length-framing s (map f xs) e, within)
-
 pub framing-long : {X : Type 0} (f : X → List ℕ) (xs : List X) (s : ℕ) → even s (map f xs) ≡ true → length (framing s (map f xs)) ≡ (length xs - 1) * s
 framing-long f xs s e = length-framing s (map f xs) e ∙ simp length-map
 
@@ -104,11 +125,62 @@ module _ (bytes : List ℕ) (start i : ℕ) (e : zeros (drop i bytes) ≡ zeros 
   pub zeros-all : length bytes ≤ i → true ≡ zeros (drop start bytes)
   zeros-all h = sym (at-drop-all zeros bytes i h) ∙ e
 
--- a loop that writes what lies behind the first four bytes
-pub write-more : (entry place bytes : List ℕ) (i b : ℕ) → place ≡ paste entry 0 (drop 4 bytes) i → i < length entry → 4 + i < length bytes → b ≡ getD bytes (4 + i) 0 → set place i b ≡ paste entry 0 (drop 4 bytes) (i + 1)
-write-more entry place bytes i b e h l q =
-    let n : 0 + i ≡ i = zero-add i in
-    let d : getD (drop 4 bytes) i 0 ≡ b = getD-drop 4 bytes i 0 ∙ sym q in
-    let m : i < length (drop 4 bytes) = simp length-drop (omega arith) in
-    let p = paste-more entry 0 (drop 4 bytes) i 0 (omega arith) m in
-    cc
+-- a run inside one piece
+module _ {X : Type 0} (f : X → List ℕ) (xs : List X) (s i n : ℕ) (e : even s (map f xs) ≡ true) (h : i < (length xs - 1) * s) (r : i % s + n ≤ s) where
+  lies : take n (drop i (framing s (map f xs))) ≡ take n (drop (i % s) (mended s (map f xs) (getD (map f xs) (i / s) [])))
+  lies = run-is s (map f xs) e i (within f xs s i e h) n r
+
+  pub run-full : (z : X) (out : List ℕ) → false ≡ empty (f (getD xs (i / s) z)) → out ≡ take n (drop (i % s) (f (getD xs (i / s) z))) → out ≡ take n (drop i (framing s (map f xs)))
+  run-full z out t q =
+      let g : getD (map f xs) (i / s) [] ≡ f (getD xs (i / s) z) = at f xs s i e h z in
+      let m : mended s (map f xs) (getD (map f xs) (i / s) []) ≡ f (getD xs (i / s) z) = ap (mended s (map f xs)) g ∙ cond-false (empty (f (getD xs (i / s) z))) (map (λ i. xored i (map f xs)) (counting 0 s)) (f (getD xs (i / s) z)) (sym t) in
+      q ∙ sym (lies ∙ ap (λ (p : List ℕ). take n (drop (i % s) p)) m)
+
+  pub run-void : (z : X) (out : List ℕ) → true ≡ empty (f (getD xs (i / s) z)) → out ≡ map (λ k. xored (i % s + k) (map f xs)) (counting 0 n) → out ≡ take n (drop i (framing s (map f xs)))
+  run-void z out t q =
+      let g : getD (map f xs) (i / s) [] ≡ f (getD xs (i / s) z) = at f xs s i e h z in
+      let m : mended s (map f xs) (getD (map f xs) (i / s) []) ≡ map (λ i. xored i (map f xs)) (counting 0 s) = ap (mended s (map f xs)) g ∙ cond-true (empty (f (getD xs (i / s) z))) (map (λ i. xored i (map f xs)) (counting 0 s)) (f (getD xs (i / s) z)) (sym t) in
+      q
+      ∙ sym (lies ∙ ap (λ (p : List ℕ). take n (drop (i % s) p)) m
+      ∙ counted-part (λ i. xored i (map f xs)) s (i % s) n r)
+
+  pub run-end : (z : X) → false ≡ empty (f (getD xs (i / s) z)) → i % s + n ≤ length (f (getD xs (i / s) z))
+  run-end z t =
+      let g : getD (map f xs) (i / s) [] ≡ f (getD xs (i / s) z) = at f xs s i e h z in
+      let k : i / s < length (map f xs) = simp length-map (byte-index f xs s i e h) in
+      let m : mended s (map f xs) (f (getD xs (i / s) z)) ≡ f (getD xs (i / s) z) = cond-false (empty (f (getD xs (i / s) z))) (map (λ i. xored i (map f xs)) (counting 0 s)) (f (getD xs (i / s) z)) (sym t) in
+      let l : length (mended s (map f xs) (getD (map f xs) (i / s) [])) ≡ s = even-level s (map f xs) (map f xs) e (i / s) k in
+      omega (arith, r, ap length (sym m) ∙ ap (λ (p : List ℕ). length (mended s (map f xs) p)) (sym g) ∙ l)
+
+-- what is written at the front, and what is left behind it
+module _ (entry bytes : List ℕ) (n : ℕ) (enough : n ≤ length bytes) where
+  pub pasted-front : take n (paste entry 0 bytes n) ≡ take n bytes
+  pasted-front =
+      subst (λ (m : ℕ). take m (paste entry 0 bytes n) ≡ take n bytes) (zero-add n) (take-paste entry 0 bytes n (omega arith) enough)
+
+  pub pasted-back : drop n (paste entry 0 bytes n) ≡ drop n entry
+  pasted-back =
+      subst (λ (m : ℕ). drop m (paste entry 0 bytes n) ≡ drop m entry) (zero-add n) (drop-paste entry 0 bytes n (omega arith) enough)
+
+-- writing run after run
+pub part-length : (xs : List ℕ) (a n : ℕ) → a + n ≤ length xs → length (take (a + n - a) (drop a xs)) ≡ n
+part-length xs a n h =
+    let e : a + n - a ≡ n = omega arith in
+    simp e (length-take-le n (drop a xs) (simp length-drop (omega arith)))
+
+pub write-run : (entry place bytes out : List ℕ) (done run m p : ℕ) → place ≡ paste entry 0 (drop 4 bytes) done → 4 + (done + run) ≤ length bytes → m ≡ run → p ≡ run → out ≡ take p (drop (4 + done) bytes) → putMid done m place out ≡ paste entry 0 (drop 4 bytes) (done + run)
+write-run entry place bytes out done run m p e l em ep q =
+    let enough : done ≤ length (drop 4 bytes) = simp length-drop (omega arith) in
+    let a : take done place ≡ take done (drop 4 bytes) = ap (take done) e ∙ pasted-front entry (drop 4 bytes) done enough in
+    let b : drop m (drop done place) ≡ drop (done + run) entry = ap (λ (x : List ℕ). drop m x) (ap (drop done) e ∙ pasted-back entry (drop 4 bytes) done enough) ∙ ap (λ (x : ℕ). drop x (drop done entry)) em ∙ drop-drop run done entry in
+    let o : out ≡ take run (drop done (drop 4 bytes)) = q ∙ ap (λ (x : ℕ). take x (drop (4 + done) bytes)) ep ∙ ap (take run) (sym (drop-drop done 4 bytes)) in
+    ap (λ (x : List ℕ). x ++ (out ++ drop m (drop done place))) a
+    ∙ ap (λ (x : List ℕ). take done (drop 4 bytes) ++ (x ++ drop m (drop done place))) o
+    ∙ ap (λ (x : List ℕ). take done (drop 4 bytes) ++ (take run (drop done (drop 4 bytes)) ++ x)) b
+    ∙ sym (append-assoc (take done (drop 4 bytes)) (take run (drop done (drop 4 bytes))) (drop (done + run) entry))
+    ∙ ap (λ (x : List ℕ). x ++ drop (done + run) entry) (sym (take-add done run (drop 4 bytes)))
+    ∙ ap (λ (x : ℕ). take (done + run) (drop 4 bytes) ++ drop x entry) (sym (zero-add (done + run)))
+
+pub xors-more : (f : ℕ → ℕ) (xs : List ℕ) (i x : ℕ) → i < length xs → ((k : ℕ) → k < i → getD xs k 0 ≡ f k) → x ≡ f i → (k : ℕ) → k < i + 1 → getD (set xs i x) k 0 ≡ f k
+xors-more f xs i x h below e =
+    subst (λ (y : ℕ). (k : ℕ) → k < i + 1 → getD (set xs i y) k 0 ≡ f k) (sym e) (fill-by-more f xs i 0 h below)

@@ -1,48 +1,33 @@
 -- What the bytes of a frame are opened to, fault by fault. Assumes nothing.
 use Prim.Native.Nat.{ℕ, _+_, _-_, _*_, _<_, _≤_, min}
-use mathlib.Core.Bool.{Bool, true, false}
+use mathlib.Core.Bool.{true, false}
 use mathlib.Core.List.{List, map}
-use mathlib.Core.Logic.{⊎-elim}
-use mathlib.Core.Path.{_≡_, refl, sym, ap, subst, _∙_}
-use native.Mathlib.Nat.{sub-zero, zero-add}
+use mathlib.Core.Path.{_≡_, sym, ap, _∙_}
+use native.Mathlib.Nat.{sub-zero}
 use native.Mathlib.Omega.{arith}
-use borrow.Author.Tests.{eq-eqb, le-leb, le-ltb, lt-leb, lt-ltb, ne-eqb}
+use borrow.Author.Tests.{eq-eqb, le-leb, le-ltb, lt-leb}
 use lib.ListN.{drop, length, take}
 use lib.Seq.{paste}
 use Rattle.std.proofs.shelf.Bits.{mul-le}
-use Rattle.std.proofs.shelf.Edits.{drop-paste, take-paste}
 use Rattle.std.proofs.shelf.Counted.{length-map-counting}
 use Rattle.std.proofs.shelf.Lists.{length-drop, length-map}
-use Rattle.std.proofs.shelf.Tests.{cases-lt}
 use Rattle.std.specs.declared.result.Result.the-variants.{Ok, Err}
 use Rattle.register.specs.Words.{word}
 use Rattle.register.specs.declared.commitment.Config.{Config}
 use Rattle.scheme.specs.Pieces.{Indexed}
 use Rattle.scheme.specs.Told.{Opened}
-use Rattle.scheme.specs.declared.fault.Fault.the-variants.{BadLength, Padding, TooFew, TooLong, Uneven}
+use Rattle.scheme.specs.declared.fault.Fault.the-variants.{Padding, TooLong}
 use Rattle.tree.specs.Frames.{piece-length, unframed, zeros}
 use Rattle.tree.specs.Trees.{depth}
+use Rattle.parity.proofs.Reading.{pasted-back, pasted-front}
 use Rattle.parity.specs.Parities.{counted, even, framing, opened, parity-opens, pick, picks, shaped, width}
 
 -- a product's size by a capped factor, which cannot wrap
 pub capped-over : (k s : ℕ) → 4 ≤ k * min s 4 → 4 ≤ k * s
 capped-over k s h = let m = mul-le k (min s 4) k s (omega arith) (omega arith) in omega arith
 
-pub capped-under : (k s : ℕ) → 1 ≤ k → k * min s 4 < 4 → k * s < 4
-capped-under k s some h =
-    ⊎-elim
-    (λ (l : s < 4). let e : min s 4 ≡ s = omega arith in simp e at h)
-    (λ (l : 4 ≤ s). let e : min s 4 ≡ 4 = omega arith in let h′ : k * 4 < 4 = simp e at h in absurd (omega arith))
-    (cases-lt s 4)
-
 module _ (limit k s : ℕ) (bytes : List ℕ) where
-  pub short : length bytes < 4 → Err BadLength ≡ unframed limit k s bytes
-  short h = simp (lt-ltb (length bytes) 4 h)
-
   module _ (n p : ℕ) (long : 4 ≤ length bytes) (e : n ≡ word bytes 0 4) (q : p ≡ piece-length k n) where
-    pub misfit : (p ≡ s → ⊥) → Err BadLength ≡ unframed limit k s bytes
-    misfit h = simp (le-ltb (length bytes) 4 long, ← e, ← q, ne-eqb p s h)
-
     module _ (same : p ≡ s) where
       pub padding : false ≡ zeros (drop (4 + n) bytes) → Err Padding ≡ unframed limit k s bytes
       padding z = simp (le-ltb (length bytes) 4 long, ← e, ← q, eq-eqb p s same, ← z)
@@ -55,34 +40,18 @@ module _ (limit k s : ℕ) (bytes : List ℕ) where
           enough : n ≤ length (drop 4 bytes)
           enough = simp length-drop (omega arith)
 
-          taken : take n (paste place 0 (drop 4 bytes) n) ≡ take n (drop 4 bytes)
-          taken =
-              subst (λ (m : ℕ). take m (paste place 0 (drop 4 bytes) n) ≡ take n (drop 4 bytes)) (zero-add n) (take-paste place 0 (drop 4 bytes) n (omega arith) enough)
-
-          dropped : drop n (paste place 0 (drop 4 bytes) n) ≡ drop n place
-          dropped =
-              subst (λ (m : ℕ). drop m (paste place 0 (drop 4 bytes) n) ≡ drop m place) (zero-add n) (drop-paste place 0 (drop 4 bytes) n (omega arith) enough)
-
           pub fits : limit ≡ length place → Ok (take n after) ≡ unframed limit k s bytes
           fits l =
               let m : n ≤ limit = omega (arith, l) in
-              let t : take n after ≡ take n (drop 4 bytes) = simp (w, taken) in
+              let t : take n after ≡ take n (drop 4 bytes) = simp (w, pasted-front place (drop 4 bytes) n enough) in
               simp (le-ltb (length bytes) 4 long, ← e, ← q, eq-eqb p s same, ← z, le-leb n limit m, t)
 
           pub behind : drop n after ≡ drop n place
-          behind = simp w dropped
+          behind = simp w (pasted-back place (drop 4 bytes) n enough)
 
 -- from the picks to their frame
-module _ (limit k : ℕ) (ps : List (List ℕ)) (n w : ℕ) (c : n ≡ counted ps) where
-  pub few : n < k → Err TooFew ≡ opened limit k ps
-  few h = simp (← c, lt-ltb n k h)
-
-  module _ (h : k ≤ n) (e : w ≡ width ps) where
-    pub uneven : false ≡ even w ps → Err Uneven ≡ opened limit k ps
-    uneven t = simp (← c, le-ltb n k h, ← e, ← t)
-
-    pub evened : true ≡ even w ps → (o : Opened) → o ≡ unframed limit k w (framing w ps) → o ≡ opened limit k ps
-    evened t o q = q ∙ simp (← c, le-ltb n k h, ← e, ← t)
+pub evened : (limit k : ℕ) (ps : List (List ℕ)) (n w : ℕ) → n ≡ counted ps → k ≤ n → w ≡ width ps → true ≡ even w ps → (o : Opened) → o ≡ unframed limit k w (framing w ps) → o ≡ opened limit k ps
+evened limit k ps n w c h e t o q = q ∙ simp (← c, le-ltb n k h, ← e, ← t)
 
 -- from the shards to their picks
 pub opens-picks : {X : Type 0} (f : X → List ℕ) (found : List X) (config : Config) (limit m : ℕ) (shards : List Indexed) (o : Opened) → true ≡ shaped config → m ≡ config .minimum → map f (take (config .minimum + 1) found) ≡ picks (config .minimum) shards → o ≡ opened limit (length (take (m + 1 - 0) found) - 1) (map f (take (m + 1 - 0) found)) → o ≡ parity-opens config limit shards

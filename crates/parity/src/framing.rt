@@ -1,11 +1,12 @@
 // The framed blob in the picks, read by position: what is missing is the exclusive or of the others.
-ghost use Prim.Native.Nat.{ℕ, _+_, _-_, _*_, _≤_, _<_};
+ghost use Prim.Native.Nat.{_+_, _-_, _*_, _%_, _^_, _≤_, _<_};
 ghost use mathlib.Core.Bool.{true};
 ghost use mathlib.Core.List.{map};
 ghost use mathlib.Core.Path.{_≡_};
-ghost use lib.ListN.{drop, getD, length};
+ghost use lib.ListN.{drop, getD, length, take};
 ghost use lib.Seq.{paste};
 ghost use denote.Ref.{now as held};
+ghost use Rattle.std.specs.Iters.{counting};
 ghost use Rattle.parity.specs.Parities.{even, framing, xored};
 ghost use Rattle.register.specs.Words.{word};
 ghost use Rattle.tree.specs.Frames.{zeros};
@@ -71,14 +72,52 @@ pub fn zeros(picks: &[&[u8]], width: usize, start: usize, end: usize) -> bool
     true
 }
 
-// Writes `length` bytes of the framed blob, from its fifth on, to the front of `place`.
-pub fn write(picks: &[&[u8]], width: usize, length: usize, place: &mut [u8])
-    requires evened { ⌜ even width (map held (now picks)) ≡ true ⌝ }
-    requires within { ⌜ 4 + length ≤ (lib.ListN.length (now picks) - 1) * width ⌝ }
-    requires room { ⌜ length ≤ lib.ListN.length (now place) ⌝ }
-    ensures { λ _. ⌜ now (place .exit) ≡ paste (now (place .entry)) 0 (drop 4 (framing width (map held (now (picks .entry))))) length ⌝ }
+// Writes the exclusive or of all bytes from `at` on.
+fn xor_from(picks: &[&[u8]], at: usize, out: &mut [u8])
+    requires { ⌜ at + length (now out) < 2 ^ 64 ⌝ }
+    ensures { λ _. ⌜ now (out .exit) ≡ map (λ k. xored (at + k) (map held (now (picks .entry)))) (counting 0 (length (now (out .entry)))) ⌝ }
 {
-    for i in 0..length {
-        place[i] = byte(picks, width, 4 + i);
+    for i in 0..out.len() {
+        out[i] = xor_at(picks, at + i);
+    }
+}
+
+// Writes what `bytes` has from `at` on.
+fn copy_from(bytes: &[u8], at: usize, out: &mut [u8])
+    requires { ⌜ at + length (now out) ≤ length (now bytes) ⌝ }
+    ensures { λ _. ⌜ now (out .exit) ≡ take (length (now (out .entry))) (drop at (now (bytes .entry))) ⌝ }
+{
+    out.copy_from_slice(&bytes[at..at + out.len()]);
+}
+
+// Writes what the framed blob has from `start` on, where that lies in one piece.
+fn copy_run(picks: &[&[u8]], width: usize, start: usize, out: &mut [u8])
+    requires evened { ⌜ even width (map held (now picks)) ≡ true ⌝ }
+    requires within { ⌜ start < (length (now picks) - 1) * width ⌝ }
+    requires inside { ⌜ start % width + length (now out) ≤ width ⌝ }
+    ensures { λ _. ⌜ now (out .exit) ≡ take (length (now (out .entry))) (drop start (framing width (map held (now (picks .entry))))) ⌝ }
+{
+    let bytes = picks[start / width];
+    let at = start % width;
+    if bytes.is_empty() {
+        xor_from(picks, at, out);
+    } else {
+        copy_from(bytes, at, out);
+    }
+}
+
+// Writes `len` bytes of the framed blob, from its fifth on, to the front of `place`, piece by piece.
+pub fn write(picks: &[&[u8]], width: usize, len: usize, place: &mut [u8])
+    requires evened { ⌜ even width (map held (now picks)) ≡ true ⌝ }
+    requires within { ⌜ 4 + len ≤ (length (now picks) - 1) * width ⌝ }
+    requires room { ⌜ len ≤ length (now place) ⌝ }
+    ensures { λ _. ⌜ now (place .exit) ≡ paste (now (place .entry)) 0 (drop 4 (framing width (map held (now (picks .entry))))) len ⌝ }
+{
+    let mut done = 0;
+    while done < len {
+        let start = 4 + done;
+        let run = (width - start % width).min(len - done);
+        copy_run(picks, width, start, &mut place[done..done + run]);
+        done += run;
     }
 }

@@ -1,8 +1,8 @@
 // The payloads that a list of shards is opened from: one for each index, empty where there is none.
-ghost use Prim.Native.Nat.{ℕ, _+_, _≤_, _<_};
+ghost use Prim.Native.Nat.{_+_, _<_};
 ghost use mathlib.Core.List.{map};
 ghost use mathlib.Core.Path.{_≡_};
-ghost use lib.ListN.{length, take};
+ghost use lib.ListN.{take};
 ghost use denote.Ref.{now as held};
 ghost use Rattle.parity.specs.Parities.{counted, even, pick, picks, width};
 ghost use Rattle.scheme.specs.Pieces.{indexed};

@@ -1,8 +1,8 @@
 -- Whether a shard leads to the root, step by step. Assumes nothing.
-use Prim.Native.Nat.{ℕ, _-_, _*_, _<_, _≤_}
-use mathlib.Core.Bool.{Bool, true, false}
+use Prim.Native.Nat.{ℕ, _-_, _*_, _<_}
+use mathlib.Core.Bool.{Bool, false}
 use mathlib.Core.List.{List}
-use mathlib.Core.Path.{_≡_, ap, sym, _∙_}
+use mathlib.Core.Path.{_≡_, ap, _∙_}
 use native.Mathlib.Omega.{arith}
 use borrow.Author.Tests.{false-eqb, lt-ltb}
 use lib.Dec.{eqb}

@@ -1,26 +1,25 @@
 -- A shard that was made leads to the root. Assumes nothing.
 use Prim.Native.Nat.{ℕ, zero, suc, _+_, _-_, _*_, _/_, _%_, _^_, _<_, _≤_}
-use mathlib.Core.Bool.{true, false, cond}
-use mathlib.Core.List.{List, [], _∷_, _++_}
+use mathlib.Core.Bool.{true}
+use mathlib.Core.List.{List, [], _++_}
 use mathlib.Core.Logic.{⊎-elim}
 use mathlib.Core.Path.{_≡_, refl, sym, ap, subst, _∙_}
 use native.Mathlib.Nat.{div-one, div-eq-of-lt, mul-comm, zero-add}
 use native.Mathlib.Numerals.{add-one}
 use native.Mathlib.Omega.{arith}
 use borrow.Author.Tests.{eq-eqb, lt-ltb, ne-eqb}
-use lib.Dec.{eqb, ltb}
+use lib.Dec.{ltb}
 use lib.ListN.{drop, getD, length, length-append, replicate, take}
 use lib.Seq.{drop-at, take-at}
 use Rattle.std.proofs.shelf.Bits.{shr-shr}
 use Rattle.std.proofs.shelf.Counted.{getD-counting, length-counting}
 use Rattle.std.proofs.shelf.Equals.{sameBytes-decides}
-use Rattle.std.proofs.shelf.Lists.{length-replicate}
 use Rattle.std.proofs.shelf.Tests.{and-from, cases-eq, cond-both}
 use Rattle.std.specs.Iters.{counting}
 use Rattle.std.specs.shelf.Lists.{joined}
 use Rattle.tree.proofs.Depth.{depth-enough}
 use Rattle.tree.proofs.Joining.{Level, length-joined, part-joined}
-use Rattle.tree.specs.Laws.{Long, Shards-are-rooted}
+use Rattle.tree.specs.Laws.{Long}
 use Rattle.tree.specs.Trees.{above, beside, climbed, leaf, levels, node, path, payload, root, rooted, shard}
 
 module _ (digest : List ℕ → List ℕ) (long : Long digest) (payloads : List (List ℕ)) where

@@ -6,7 +6,7 @@ use mathlib.Core.Path.{_≡_}
 use lib.ListN.{getD, length}
 use Rattle.std.specs.declared.result.Result.the-variants.{Ok}
 use Rattle.tree.specs.Frames.{framed, piece-length, unframed}
-use Rattle.tree.specs.Trees.{levels, root, rooted, shard}
+use Rattle.tree.specs.Trees.{depth, levels, root, rooted, shard}
 
 -- digests of 32 bytes
 abbrev pub Long : (List ℕ → List ℕ) → Type 0
@@ -22,3 +22,8 @@ abbrev pub Frames-open : Type 0
 Frames-open =
     (k : ℕ) → 1 ≤ k → (blob : List ℕ) → length blob < 2 ^ 32 → (limit : ℕ) → length blob ≤ limit
     → unframed limit k (piece-length k (length blob)) (framed k blob) ≡ Ok blob
+
+-- the depth has room for the last leaf, and no less has
+abbrev pub Depth-is-least : Type 0
+Depth-is-least =
+    (last : ℕ) → last < 2 ^ 32 → (last < 2 ^ depth last) × ((d : ℕ) → last < 2 ^ d → depth last ≤ d)

@@ -1,5 +1,5 @@
 // Shards of a hash tree: a payload and the siblings on its way to the root.
-ghost use Prim.Native.Nat.{ℕ, _+_, _*_, _%_, _^_, _<_, _≤_};
+ghost use Prim.Native.Nat.{_+_, _*_, _%_, _≤_};
 ghost use mathlib.Core.Path.{_≡_};
 ghost use lib.ListN.{drop, length, take};
 ghost use Rattle.tree.specs.Trees.{above, climbed, depth, payload, rooted};
@@ -8,9 +8,7 @@ use register::bytes::same;
 
 // How many levels a tree with the leaves 0 to `last` has above them: the fewest that give it as many leaves.
 pub fn depth(last: u32) -> u32
-    ensures is { λ r. ⌜ r ≡ depth last ⌝ }
-    ensures enough { λ r. ⌜ last < 2 ^ r ⌝ }
-    ensures least { λ r. ⌜ ((d : ℕ) → last < 2 ^ d → r ≤ d) ⌝ }
+    ensures { λ r. ⌜ r ≡ depth last ⌝ }
 {
     32 - last.leading_zeros()
 }

@@ -1,5 +1,3 @@
-use Prim.Native.Nat.{ℕ}
-use mathlib.Core.List.{List}
 use denote.Ref.{now}
 use Rattle.parity.proofs.Picking.{fold-all, xor-more}
 use Rattle.parity.proofs.framing.xor_at.Needs as need

@@ -1,5 +1,4 @@
 -- What the turns so far have folded.
-use Prim.Native.Nat.{_≤_}
 use mathlib.Core.List.{map}
 use mathlib.Core.Path.{_≡_}
 use denote.Ref.{now}

@@ -1,4 +1,4 @@
-use mathlib.Core.Path.{_≡_, sym, _∙_}
+use mathlib.Core.Path.{sym, _∙_}
 use denote.Ref.{now}
 use Rattle.parity.proofs.Picking.{even-all, even-other, even-same, even-void}
 use Rattle.parity.proofs.picks.even.Needs as need

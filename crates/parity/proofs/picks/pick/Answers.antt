@@ -1,4 +1,4 @@
-use mathlib.Core.Path.{_≡_, sym, _∙_}
+use mathlib.Core.Path.{sym}
 use Rattle.parity.proofs.Picking.{pick-here, pick-none, pick-other, pick-void}
 use Rattle.parity.proofs.picks.pick.Needs as need
 use Rattle.parity.proofs.picks.pick.Needs.{then-shard-index·else-not-is-empty, else-shard-index}

@@ -1,10 +1,9 @@
-use Prim.Native.Nat.{ℕ, _+_, _<_}
+use Prim.Native.Nat.{_+_, _<_}
 use mathlib.Core.List.{map}
 use mathlib.Core.Path.{_≡_}
 use native.Mathlib.Omega.{arith}
 use denote.Ref.{now}
 use Rattle.scheme.specs.Pieces.{indexed}
-use Rattle.tree.specs.Trees.{depth}
 use Rattle.parity.proofs.Picking.{front-all, front-more}
 use Rattle.parity.specs.Parities.{pick}
 use Rattle.parity.proofs.picks.picks.Needs as need
@@ -17,4 +16,4 @@ loop-index-again c =
 pub returns : need.returns
 returns c =
     let all : c .loop-index .index ≡ c .args .last + 1 = omega arith in
-    front-all now (c .loop-index .found) (map indexed (c .args .shards .now)) (c .args .last) (c .from .result) (c .depth-levels .result) (c .loop-index .index) all (c .from .ensures) (c .depth-levels .ensures .is) (c .loop-index .inv .1)
+    front-all now (c .loop-index .found) (map indexed (c .args .shards .now)) (c .args .last) (c .from .result) (c .depth-levels .result) (c .loop-index .index) all (c .from .ensures) (c .depth-levels .ensures) (c .loop-index .inv .1)

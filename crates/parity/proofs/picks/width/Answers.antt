@@ -1,4 +1,4 @@
-use mathlib.Core.Path.{_≡_, sym, _∙_}
+use mathlib.Core.Path.{sym, _∙_}
 use denote.Ref.{now}
 use Rattle.parity.proofs.Picking.{fold-all, width-no, width-yes}
 use Rattle.parity.proofs.picks.width.Needs as need

@@ -1,9 +1,6 @@
-use mathlib.Core.List.{List}
 use mathlib.Core.Path.{_≡_}
-use Prim.Native.Nat.{ℕ, _%_}
 use borrow.Author.Needs.{needs}
 use lib.ListN.{length}
-use Rattle.tree.specs.Trees.{above}
 use Rattle.tree.proofs.Climb.{climb-more, place-more}
 use Rattle.tree.proofs.path.climb.Needs as need
 

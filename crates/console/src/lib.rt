@@ -1,0 +1,3 @@
+// The console: the commands of `covasluk`, and what they print.
+pub mod commands;
+pub mod print;
