@@ -251,6 +251,18 @@ def main():
         out.write("\n".join(["open"] + [f.name for f in files]) + "\n")
     with open(f"{CRATE}/stdout", "w") as out:
         out.write("\n".join(line for f in files for line in f.shown) + "\n")
+    hash_run()
+
+
+def hash_run():
+    """The stored run of `covasluk hash`."""
+    message = b"The quick brown fox jumps over the lazy dog\n" * 9
+    with open(f"{CRATE}_hash/data/message.txt", "wb") as out:
+        out.write(message)
+    with open(f"{CRATE}_hash/args", "w") as out:
+        out.write("hash\nsha3-256\nmessage.txt\n")
+    with open(f"{CRATE}_hash/stdout", "w") as out:
+        out.write(hashlib.sha3_256(message).hexdigest() + "  message.txt\n")
 
 
 main()
