@@ -7,7 +7,7 @@ use Rattle.register.specs.Commitments.{config-of, under}
 use Rattle.register.specs.declared.commitment.Config.{Config}
 use Rattle.scheme.specs.Pieces.{indexed}
 use Rattle.std.specs.declared.option.Option.the-variants.{Some}
-use Rattle.reconstruct.proofs.Ending.{ends-decoded, ends-short, fills-decoded, fills-short}
+use Rattle.reconstruct.proofs.Ending.{ends-decoded, ends-short, fills-decoded, fills-short, fronted}
 use Rattle.reconstruct.specs.Gathered.{gathered}
 use Rattle.reconstruct.specs.declared.outcome.Outcome.the-variants.{Decoded}
 use Rattle.reconstruct.proofs.reconstruct.reconstruct.Needs as need
@@ -24,6 +24,7 @@ returns-then-count-from g c =
     record {
       gives = ends-short _ _ _ _ (x .counts) _ h;
       writes = fills-short _ _ _ _ (x .counts) opened (c .args .place .now) h;
+      gathers = fronted _ (c .in-Continue-count .count) all (c .gather .last .shards) (x .counts) (x .gathers);
       judges = x .judges;
     }
 
@@ -41,5 +42,6 @@ returns g c =
     record {
       gives = ap (λ r. Some (Decoded r)) o ∙ ends-decoded _ _ _ _ (x .counts) _ h;
       writes = w ∙ fills-decoded _ _ _ _ (x .counts) opened (c .args .place .now) h;
+      gathers = fronted _ (c .in-Continue-count .count) all (c .gather .last .shards) (x .counts) (x .gathers);
       judges = x .judges;
     }
