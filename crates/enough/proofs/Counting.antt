@@ -2,7 +2,7 @@
 use Rattle.std.proofs.Common.{◌≡◌, ℕ, zero, suc, ◌+◌, ◌<◌, ◌≤◌, Bool, cond, not, eqb, List, [], ◌∷◌, length, filter, sym, refl, ◌∙◌, ⊎_elim, arith}
 use Rattle.std.proofs.lemmas.List.Filters.{length-filter_both}
 use Rattle.std.proofs.lemmas.Bool.{cases_eq, cond_both, eq-eqb, eqb-false, eqb-true, ne_eqb, not-false, not-true}
-use Rattle.std.specs.List.{AllByRecursion as All}
+use Rattle.std.specs.List.{AllByRecursion}
 use Rattle.model.specs.Promises.{Distinct}
 use Rattle.runs.proofs.Tallies.{hit, tally}
 
@@ -28,13 +28,13 @@ module _ {X : Type 0} (at : X → ℕ) (i : ℕ) where
       (λ t. simp t (omega arith)) (λ f. simp f (omega arith))
 
   -- what holds of every entry holds of one that is counted
-  pub counted : (P : X → Type 0) (xs : List X) → All P xs → 1 ≤ tally at i xs → (x : X) × P x × (at x ≡ i)
+  pub counted : (P : X → Type 0) (xs : List X) → AllByRecursion P xs → 1 ≤ tally at i xs → (x : X) × P x × (at x ≡ i)
   counted P [] all some = absurd (omega arith)
   counted P (x ∷ xs) all some =
       ⊎_elim (λ e. (x, all.0, e)) (λ n. let z = hit_other i (at x) n in counted P xs all.1 (omega arith)) (cases_eq (at x) i)
 
 -- distinct numbers are counted at most once
-absent : (x : ℕ) (xs : List ℕ) → All (λ y. x ≡ y → ⊥) xs → tally itself x xs ≡ 0
+absent : (x : ℕ) (xs : List ℕ) → AllByRecursion (λ y. x ≡ y → ⊥) xs → tally itself x xs ≡ 0
 absent x [] all = refl
 absent x (y ∷ ys) all = let z = hit_other x y (λ e. all.0 (sym e)) in let ih = absent x ys all.1 in omega arith
 
@@ -45,15 +45,15 @@ once_each i (x ∷ xs) d =
     (λ n. omega (arith, hit_other i x n, once_each i xs d.1))
     (cases_eq x i)
 
-pub none_here : {X : Type 0} (at : X → ℕ) (i : ℕ) (xs : List X) → tally at i xs ≡ 0 → All (λ x. i ≡ at x → ⊥) xs
+pub none_here : {X : Type 0} (at : X → ℕ) (i : ℕ) (xs : List X) → tally at i xs ≡ 0 → AllByRecursion (λ x. i ≡ at x → ⊥) xs
 none_here at i [] z = tt
 none_here at i (x ∷ xs) z =
     ((λ e. omega (arith, hit_same i (at x) (sym e))), none_here at i xs (omega arith))
 
-below-kept : (P : ℕ) (xs : List ℕ) → All (λ x. x < suc P) xs → All (λ x. x < P) (filter (λ x. not (eqb x P)) xs)
+below-kept : (P : ℕ) (xs : List ℕ) → AllByRecursion (λ x. x < suc P) xs → AllByRecursion (λ x. x < P) (filter (λ x. not (eqb x P)) xs)
 below-kept P [] all = tt
 below-kept P (x ∷ xs) all =
-    cond_both (not (eqb x P)) (x ∷ filter (λ x. not (eqb x P)) xs) (filter (λ x. not (eqb x P)) xs) (All (λ x. x < P))
+    cond_both (not (eqb x P)) (x ∷ filter (λ x. not (eqb x P)) xs) (filter (λ x. not (eqb x P)) xs) (AllByRecursion (λ x. x < P))
     (λ t. (let n = eqb-false x P (not-true (eqb x P) t) in omega (arith, all.0), below-kept P xs all.1))
     (λ f. below-kept P xs all.1)
 
@@ -65,7 +65,7 @@ tally_at i (x ∷ xs) =
     (λ t. let h = hit_same i x (eqb-true x i t) in omega arith) (λ f. let h = hit_other i x (eqb-false x i f) in omega arith)
 
 -- numbers below P that are counted at most once are at most P
-pub crowded : (P : ℕ) (xs : List ℕ) → All (λ x. x < P) xs → ((i : ℕ) → tally itself i xs ≤ 1) → length xs ≤ P
+pub crowded : (P : ℕ) (xs : List ℕ) → AllByRecursion (λ x. x < P) xs → ((i : ℕ) → tally itself i xs ≤ 1) → length xs ≤ P
 crowded zero [] all few = omega arith
 crowded zero (x ∷ xs) all few = absurd (omega (arith, all.0))
 crowded (suc P) xs all few =
@@ -86,7 +86,7 @@ others at i p (x ∷ xs) n =
     (λ f. let e = eqb-true (at x) p (not-false (eqb (at x) p) f) in let z = hit_other i (at x) (λ g. n (sym g ∙ e)) in omega arith)
 
 -- distinct numbers each of which is counted in a list are at most as many as its entries
-pub covered : (ps xs : List ℕ) → Distinct ps → All (λ p. 1 ≤ tally itself p xs) ps → length ps ≤ length xs
+pub covered : (ps xs : List ℕ) → Distinct ps → AllByRecursion (λ p. 1 ≤ tally itself p xs) ps → length ps ≤ length xs
 covered [] xs d all = omega arith
 covered (p ∷ ps) xs d all =
     let here = tally_at p xs in
@@ -94,6 +94,6 @@ covered (p ∷ ps) xs d all =
     let rest = covered ps (filter (λ x. not (eqb x p)) xs) d.1 (still ps d.0 all.1) in
     omega (arith, all.0)
   where
-    still : (qs : List ℕ) → All (λ y. p ≡ y → ⊥) qs → All (λ q. 1 ≤ tally itself q xs) qs → All (λ q. 1 ≤ tally itself q (filter (λ x. not (eqb x p)) xs)) qs
+    still : (qs : List ℕ) → AllByRecursion (λ y. p ≡ y → ⊥) qs → AllByRecursion (λ q. 1 ≤ tally itself q xs) qs → AllByRecursion (λ q. 1 ≤ tally itself q (filter (λ x. not (eqb x p)) xs)) qs
     still [] n a = tt
     still (q ∷ qs) n a = (omega (arith, a.0, others itself q p xs (λ e. n.0 (sym e))), still qs n.1 a.1)

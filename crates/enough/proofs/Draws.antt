@@ -1,7 +1,7 @@
 -- Several intakes one after the other, and a trial of a job behind them, keep the record of a commitment sound.
 use Rattle.std.proofs.Common.{◌≡◌, ℕ, ◌<◌, ◌≤◌, Bool, true, false, List, [], ◌∷◌, length, Some, sym, refl, ◌∙◌, subst, subst₂}
 use Rattle.std.proofs.lemmas.Bool.{cond_both, or_parts}
-use Rattle.std.specs.List.{AllByRecursion as All}
+use Rattle.std.specs.List.{AllByRecursion}
 use Rattle.rosters.specs.Roster.{Fair}
 use Rattle.rosters.specs.Sound.{ascending, index}
 use Rattle.scheme.specs.Pieces.{Indexed}
@@ -72,7 +72,7 @@ module _ (limits : Limits) (m : Meaning) (a : Assignment) (c : List ℕ) (e : �
           commitment = t.commitment ∙ row.commitment;
         }
 
-    pub row_all : (r : Rec) (i : Ingested) (ps : List Sent) → All (λ p. Hand p.sender p.shard) ps → Row lost r i → Row lost r (all_taken limits m roster ks e i ps)
+    pub row_all : (r : Rec) (i : Ingested) (ps : List Sent) → AllByRecursion (λ p. Hand p.sender p.shard) ps → Row lost r i → Row lost r (all_taken limits m roster ks e i ps)
     row_all r i [] handed row = row
     row_all r i (p ∷ ps) handed row = row_all r (taken limits m roster ks e i p) ps handed.1 (row_on r i p handed.0 row)
 

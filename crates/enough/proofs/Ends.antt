@@ -2,7 +2,7 @@
 use Rattle.std.proofs.Common.{◌≡◌, ℕ, suc, ◌+◌, ◌-◌, ◌<◌, ◌≤◌, Bool, false, cond, not, ltb, leb, List, [], ◌∷◌, ◌++◌, map, length, get_or, IfSome, Some, None, Ok, Err, filter, Option, Result, sym, refl, ap, subst, arith, length-append, length-take}
 use Rattle.std.proofs.ByRecursion.{All-append, All-drop, All-take}
 use Rattle.std.proofs.lemmas.Bool.{cond_both, leb-false, leb-true, ltb-true, not-true}
-use Rattle.std.specs.List.{AllByRecursion as All}
+use Rattle.std.specs.List.{AllByRecursion}
 use Rattle.block.specs.declared.kind.Reading.{Reading}
 use Rattle.reconstruct.specs.declared.error.Error.{Error}
 use Rattle.scheme.specs.Pieces.{Indexed}
@@ -44,18 +44,18 @@ module _ (good : Indexed → Bool) where
       (λ t. simp t (omega arith)) (λ f. simp f (omega arith))
 
 module _ (good : Indexed → Bool) (minimum : ℕ) (keys : List (List ℕ)) (own : Option ℕ) (Hand : List ℕ → Indexed → Type 0) where
-  pub good_checked : (ps : List Sent) → All (Pending good minimum keys own Hand) ps → All (Checked good minimum keys own Hand) (filter good (map shard_of ps))
+  pub good_checked : (ps : List Sent) → AllByRecursion (Pending good minimum keys own Hand) ps → AllByRecursion (Checked good minimum keys own Hand) (filter good (map shard_of ps))
   good_checked [] all = tt
   good_checked (p ∷ ps) all =
-      cond_both (good p.shard) (p.shard ∷ filter good (map shard_of ps)) (filter good (map shard_of ps)) (All (Checked good minimum keys own Hand))
+      cond_both (good p.shard) (p.shard ∷ filter good (map shard_of ps)) (filter good (map shard_of ps)) (AllByRecursion (Checked good minimum keys own Hand))
       (λ t. (record { passes = t; key = p.sender; handed = all.0.handed }, good_checked ps all.1))
       (λ f. good_checked ps all.1)
 
-  bad_lost : (ps : List Sent) → All (Pending good minimum keys own Hand) ps → All (Lost good minimum keys own Hand) (map sent_at (filter (fails good) ps))
+  bad_lost : (ps : List Sent) → AllByRecursion (Pending good minimum keys own Hand) ps → AllByRecursion (Lost good minimum keys own Hand) (map sent_at (filter (fails good) ps))
   bad_lost [] all = tt
   bad_lost (p ∷ ps) all =
       cond_both (fails good p) (p ∷ filter (fails good) ps) (filter (fails good) ps)
-      (λ l. All (Lost good minimum keys own Hand) (map sent_at l))
+      (λ l. AllByRecursion (Lost good minimum keys own Hand) (map sent_at l))
       (λ t. (record { key = p.sender; bytes = p.shard.bytes; handed = all.0.handed; place = all.0.place; bad = not-true (good p.shard) t }, bad_lost ps all.1))
       (λ f. bad_lost ps all.1)
 
@@ -113,7 +113,7 @@ module _ (good : Indexed → Bool) (minimum : ℕ) (keys : List (List ℕ)) (own
   pub record Left (lost : List ℕ) (r : Rec) (outcome : Outcome) (left : Rec) : Type 0 where
     pub more : List ℕ
     pub sound : Sound good minimum keys own Hand more left
-    pub losses : All (Lost good minimum keys own Hand) more
+    pub losses : AllByRecursion (Lost good minimum keys own Hand) more
     pub settled : Settled minimum left.phase
     pub longer : length lost ≤ length more
     pub number : CachedAbove (length more) outcome
@@ -134,7 +134,7 @@ module _ (m : Meaning) (limit : ℕ) (keys : List (List ℕ)) (own : Option ℕ)
   abbrev Ending : Ended → Type 0
   Ending e = IfSome e.rec (Left good' minimum' keys own Hand lost out e.outcome)
 
-  module _ (k : Sound good' minimum' keys own Hand lost out) (losses : All (Lost good' minimum' keys own Hand) lost) where
+  module _ (k : Sound good' minimum' keys own Hand lost out) (losses : AllByRecursion (Lost good' minimum' keys own Hand) lost) where
     short_left : length (passing m limit r.commitment j) < minimum' → Ending (shortened (suc r.completions) (passing m limit r.commitment j) (numbered out))
     unfolding tries
     short_left few =
@@ -189,12 +189,12 @@ job_phase (awaiting w) j h = (w, ap (λ o. awaiting (with_job o w)) h)
 job_phase (cached blob) j h = never_some j _ h
 
 pub ended_well : (m : Meaning) (limit : ℕ) (keys : List (List ℕ)) (own : Option ℕ) (Hand : List ℕ → Indexed → Type 0) (c : List ℕ) (r : Rec) (j : Job) (lost : List ℕ) →
-    r.commitment ≡ c → job_in r.phase ≡ Some j → Sound (good_for m limit c) (minimum_of c) keys own Hand lost r → All (Lost (good_for m limit c) (minimum_of c) keys own Hand) lost →
+    r.commitment ≡ c → job_in r.phase ≡ Some j → Sound (good_for m limit c) (minimum_of c) keys own Hand lost r → AllByRecursion (Lost (good_for m limit c) (minimum_of c) keys own Hand) lost →
     IfSome (completes m limit j r).rec (Left (good_for m limit c) (minimum_of c) keys own Hand lost r (completes m limit j r).outcome)
 ended_well m limit keys own Hand c r j lost named at =
     let w = job_phase r.phase j at in
-    subst (λ d. Sound (good_for m limit d) (minimum_of d) keys own Hand lost r → All (Lost (good_for m limit d) (minimum_of d) keys own Hand) lost →
+    subst (λ d. Sound (good_for m limit d) (minimum_of d) keys own Hand lost r → AllByRecursion (Lost (good_for m limit d) (minimum_of d) keys own Hand) lost →
     IfSome (completes m limit j r).rec (Left (good_for m limit d) (minimum_of d) keys own Hand lost r (completes m limit j r).outcome)) named
-    (subst (λ ph. Sound (good_for m limit r.commitment) (minimum_of r.commitment) keys own Hand lost (with_phase ph r) → All (Lost (good_for m limit r.commitment) (minimum_of r.commitment) keys own Hand) lost →
+    (subst (λ ph. Sound (good_for m limit r.commitment) (minimum_of r.commitment) keys own Hand lost (with_phase ph r) → AllByRecursion (Lost (good_for m limit r.commitment) (minimum_of r.commitment) keys own Hand) lost →
     IfSome (completes m limit j (with_phase ph r)).rec (Left (good_for m limit r.commitment) (minimum_of r.commitment) keys own Hand lost (with_phase ph r) (completes m limit j (with_phase ph r)).outcome)) (sym w.1)
     (λ k losses. completed m limit keys own Hand r j w.0 lost k losses))

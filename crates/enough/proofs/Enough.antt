@@ -4,7 +4,7 @@ use lib.ListN.{length-map}
 use Rattle.std.proofs.ByRecursion.{All-append, All-weaker}
 use Rattle.std.proofs.lemmas.Bool.{both_ways, cases_lt, cond_both}
 use Rattle.std.specs.Option.{option_map}
-use Rattle.std.specs.List.{AllByRecursion as All}
+use Rattle.std.specs.List.{AllByRecursion}
 use Rattle.reconstruct.specs.Rebuilt.{raised, rebuilt}
 use Rattle.reconstruct.specs.declared.error.Error.{Error}
 use Rattle.rosters.specs.Sound.{index}
@@ -106,13 +106,13 @@ module _ (limits : Limits) (m : Meaning) (a : Assignment) (h : List Event) (c : 
             let l = lost_apart r.phase live.sound i in
             ⊎_elim (λ some. let z = not_both i some in omega arith) (λ none. omega arith) (cases_lt 0 (tally itself i places))
 
-    pub past : All (λ e. Completing c e.call → EndedAbove (length keys - length places) e.answer) (since limits.window c h)
+    pub past : AllByRecursion (λ e. Completing c e.call → EndedAbove (length keys - length places) e.answer) (since limits.window c h)
     past =
         All-weaker (λ x. Completing c x.call → EndedAbove (length live.lost) x.answer) (λ x. Completing c x.call → EndedAbove (length keys - length places) x.answer)
         (λ x e is. let few = few_lost in ended_above_more (length live.lost) (length keys - length places) x.answer (omega arith) (e is)) (since limits.window c h) live.ended
 
     -- each place has contributed
-    pub given_places : All (λ p. GivenTo r p) places
+    pub given_places : AllByRecursion (λ p. GivenTo r p) places
     given_places =
         All-weaker Hands (λ p. GivenTo r p)
         (λ p x. live.gave (get_or keys p []) (record { index = p; bytes = x.bytes }) x.handed (own_place keys p live.rising x.member) x.good)
@@ -120,7 +120,7 @@ module _ (limits : Limits) (m : Meaning) (a : Assignment) (h : List Event) (c : 
 
     -- without a job too few would be in play
     no_job : (w : Shards) → WaitingHere w →
-        All (λ p. get_or r.contributed p false ≡ true) places → few_with (minimum_of c) w.job w → w.job ≡ None → ⊥
+        AllByRecursion (λ p. get_or r.contributed p false ≡ true) places → few_with (minimum_of c) w.job w → w.job ≡ None → ⊥
     no_job w k came settled none =
         let few : length w.checked + length w.pending < minimum_of c = subst (λ o. few_with (minimum_of c) o w) none settled in
         let shown = map index_of w.checked ++ map sent_at w.pending in
@@ -239,7 +239,7 @@ brought limits m a h s roster leads agrees c entry places enough =
     named = found_key filed_under c s.records r found.1
 
     now : (ph : Phase) → r.phase ≡ ph → InPhase (good_for m limits.blob c) (minimum_of c) (a.keys entry.round.epoch.0) (a.own entry.round.epoch.0) (HandedIn h c) r.contributed r.verified r.completions live.lost ph →
-        Settled (minimum_of c) ph → All (λ p. Given r.contributed p ph) places →
+        Settled (minimum_of c) ph → AllByRecursion (λ p. Given r.contributed p ph) places →
         ((room : ℕ) → (step limits m roster (block_look_up c room) s).answer ≡ refused NoBlock → ⊥) ⊎ CompletesWell (step limits m roster (completion c (asked limits m a h)) s).answer
     now (cached blob) is k settled came = inl (λ room. there limits m roster s c room blob live.proper (ap phase_of found.1 ∙ ap Some is))
     now (awaiting w) is k settled came =

@@ -2,7 +2,7 @@
 use Rattle.std.proofs.Common.{◌≡◌, ℕ, ◌+◌, ◌<◌, Bool, true, false, List, [], ◌∷◌, length, get_or, set, Ordering, Equal, sym, refl, ⊎_elim, arith}
 use Rattle.std.proofs.lemmas.List.{get_or-set_other, get_or-set_same}
 use Rattle.std.proofs.lemmas.Bool.{cases_eq}
-use Rattle.std.specs.List.{AllByRecursion as All}
+use Rattle.std.specs.List.{AllByRecursion}
 use Rattle.table.proofs.Orders.{by_order}
 use Rattle.table.specs.Table.{put}
 use Rattle.model.specs.State.{Phase, awaiting, cached, Shards}
@@ -22,12 +22,12 @@ module _ (flags : List Bool) (i : ℕ) where
       (cases_eq j i)
 
 module _ {K E : Type 0} (order : K → K → Ordering) (key : E → K) where
-  pub put_tally : (at : E → ℕ) (i : ℕ) (e : E) (xs : List E) → All (λ x. order (key x) (key e) ≡ Equal → ⊥) xs → tally at i (put order key e xs) ≡ tally at i xs + hit i (at e)
+  pub put_tally : (at : E → ℕ) (i : ℕ) (e : E) (xs : List E) → AllByRecursion (λ x. order (key x) (key e) ≡ Equal → ⊥) xs → tally at i (put order key e xs) ≡ tally at i xs + hit i (at e)
   put_tally at i e [] new = omega arith
   put_tally at i e (x ∷ xs) new =
       let ih = put_tally at i e xs new.1 in
       by_order (order (key x) (key e)) (λ l. simp l (omega arith)) (λ q. absurd (new.0 q)) (λ m. simp m (omega arith))
 
-pub all_with : {X : Type 0} (P Q R : X → Type 0) → ((x : X) → P x → Q x → R x) → (xs : List X) → All P xs → All Q xs → All R xs
+pub all_with : {X : Type 0} (P Q R : X → Type 0) → ((x : X) → P x → Q x → R x) → (xs : List X) → AllByRecursion P xs → AllByRecursion Q xs → AllByRecursion R xs
 all_with P Q R f [] p q = tt
 all_with P Q R f (x ∷ xs) p q = (f x p.0 q.0, all_with P Q R f xs p.1 q.1)

@@ -1,6 +1,6 @@
 -- What is true of a record in every run: shards in play at indices that contributed, and the indices of shards found bad.
 use Rattle.std.proofs.Common.{◌≡◌, ℕ, ◌+◌, ◌<◌, ◌≤◌, Bool, true, false, List, length, get_or, Some, None, Option}
-use Rattle.std.specs.List.{AllByRecursion as All}
+use Rattle.std.specs.List.{AllByRecursion}
 use Rattle.rosters.specs.Sound.{index}
 use Rattle.scheme.specs.Pieces.{Indexed}
 use Rattle.model.specs.State.{Job, Phase, awaiting, cached, Rec, Sent, Shards}
@@ -46,15 +46,15 @@ module _ (good : Indexed → Bool) (minimum : ℕ) (keys : List (List ℕ)) (own
 
   abbrev pub Jobbed : Option Job → Type 0
   Jobbed None = Unit {0}
-  Jobbed (Some j) = All Checked j.checked × All Pending j.pending × (minimum ≤ length j.checked + length j.pending)
+  Jobbed (Some j) = AllByRecursion Checked j.checked × AllByRecursion Pending j.pending × (minimum ≤ length j.checked + length j.pending)
 
   pub record Waiting (flags : List Bool) (verified : Bool) (w : Shards) (lost : List ℕ) : Type 0 where
     pub long : length flags ≡ 64
     pub assigned : verified ≡ true → (i : ℕ) → own ≡ Some i → get_or flags i false ≡ true
     pub tallied : (i : ℕ) → in_play i w + tally itself i lost ≡ flag (get_or flags i false)
-    pub received : All (λ x. get_or flags x.index false ≡ true) w.received
-    pub checked : All Checked w.checked
-    pub pending : All Pending w.pending
+    pub received : AllByRecursion (λ x. get_or flags x.index false ≡ true) w.received
+    pub checked : AllByRecursion Checked w.checked
+    pub pending : AllByRecursion Pending w.pending
     pub job : Jobbed w.job
 
   abbrev pub InPhase : List Bool → Bool → ℕ → List ℕ → Phase → Type 0

@@ -3,7 +3,7 @@ use Rattle.std.proofs.Common.{◌≡◌, ℕ, zero, suc, ◌≤◌, true, false,
 use lib.ListN.{length-replicate}
 use Rattle.std.proofs.ByRecursion.{All-weaker}
 use Rattle.std.proofs.lemmas.Bool.{both_ways, cond_both, eqb-false}
-use Rattle.std.specs.List.{AllByRecursion as All}
+use Rattle.std.specs.List.{AllByRecursion}
 use Rattle.register.specs.Commitments.{config_of}
 use Rattle.register.specs.declared.commitment.Malformed.TheVariants.{Length, ZeroMinimum, ZeroExtra}
 use Rattle.register.specs.declared.counters.Round.{Round}
@@ -64,9 +64,9 @@ module _ (limits : Limits) (m : Meaning) (a : Assignment) (c : List ℕ) (ep : �
   pub record Live (es : List Event) (r : Rec) : Type 0 where
     pub lost : List ℕ
     pub sound : SoundHere limits m a c ep Hand lost r
-    pub losses : All (Lost (good_here limits m a c ep Hand) (minimum_of c) (a.keys ep) (a.own ep) Hand) lost
+    pub losses : AllByRecursion (Lost (good_here limits m a c ep Hand) (minimum_of c) (a.keys ep) (a.own ep) Hand) lost
     pub settled : Settled (minimum_of c) r.phase
-    pub ended : All (λ x. Completing c x.call → EndedAbove (length lost) x.answer) es
+    pub ended : AllByRecursion (λ x. Completing c x.call → EndedAbove (length lost) x.answer) es
     pub gave : (k : List ℕ) (x : Indexed) → HandedIn es c k x → index k (a.keys ep) ≡ Some x.index → good_here limits m a c ep Hand x ≡ true → GivenTo r x.index
     pub proper : is_commitment c ≡ true
     pub rising : ascending (a.keys ep) ≡ true
@@ -74,7 +74,7 @@ module _ (limits : Limits) (m : Meaning) (a : Assignment) (c : List ℕ) (ep : �
   -- the record went on by one event
   pub next : (es : List Event) (x : Event) (old r : Rec) (live : Live es old) (more : List ℕ) →
       Grown limits m a c ep Hand more old r →
-      All (Lost (good_here limits m a c ep Hand) (minimum_of c) (a.keys ep) (a.own ep) Hand) more →
+      AllByRecursion (Lost (good_here limits m a c ep Hand) (minimum_of c) (a.keys ep) (a.own ep) Hand) more →
       length live.lost ≤ length more →
       (Completing c x.call → EndedAbove (length more) x.answer) →
       ((k : List ℕ) (s : Indexed) → Counts x.answer → Brings c k s x.call → index k (a.keys ep) ≡ Some s.index → good_here limits m a c ep Hand s ≡ true → GivenTo r s.index) →

@@ -3,7 +3,7 @@ use Rattle.std.proofs.Common.{◌≡◌, ℕ, zero, suc, ◌<◌, Bool, true, fa
 use Rattle.std.proofs.ByRecursion.{All-get_or, All-weaker}
 use Rattle.std.proofs.lemmas.Bool.{and_parts}
 use Rattle.std.specs.Ordering.{is_lt}
-use Rattle.std.specs.List.{AllByRecursion as All}
+use Rattle.std.specs.List.{AllByRecursion}
 use Rattle.register.specs.Order.{order}
 use Rattle.rosters.specs.Sound.{ascending, index, rises}
 use Rattle.table.proofs.Orders.{itself}
@@ -14,7 +14,7 @@ less Less h = refl
 less Equal h = cc
 less Greater h = cc
 
-all_rises : (k : List ℕ) (ks : List (List ℕ)) → rises k ks ≡ true → All (λ l. order k l ≡ Less) ks
+all_rises : (k : List ℕ) (ks : List (List ℕ)) → rises k ks ≡ true → AllByRecursion (λ l. order k l ≡ Less) ks
 all_rises k [] up = tt
 all_rises k (l ∷ ks) up =
     let parts = and_parts (is_lt (order k l)) (rises l ks) up in

@@ -2,7 +2,7 @@
 use Rattle.std.proofs.Common.{◌≡◌, ℕ, Bool, true, false, ◌⊎◌, List, [], ◌∷◌, length, is_some, Some, None, Option, sym, refl, ap, ◌∙◌, subst, inl, inr, arith}
 use Rattle.std.proofs.lemmas.Slice.Eq.{bytes_eq-Decides}
 use Rattle.std.proofs.ByRecursion.{All-weaker}
-use Rattle.std.specs.List.{AllByRecursion as All}
+use Rattle.std.specs.List.{AllByRecursion}
 use Rattle.std.specs.Str.{bytes_eq}
 use Rattle.register.specs.Order.{order}
 use Rattle.rosters.specs.Sound.{index}
@@ -33,7 +33,7 @@ abbrev pub For : List ℕ → (List ℕ → Indexed → Type 0) → List ℕ →
 For c Hand d k x = d ≡ c → Hand k x
 
 abbrev pub OwnBoxes : List ℕ → (List ℕ → Indexed → Type 0) → List Peer → Type 0
-OwnBoxes c Hand ps = All (Filled (For c Hand)) ps
+OwnBoxes c Hand ps = AllByRecursion (Filled (For c Hand)) ps
 
 module _ (limits : Limits) (m : Meaning) (a : Assignment) (c : List ℕ) (ep : ℕ) (Hand : List ℕ → Indexed → Type 0) (roster : Roster) (call : Call) (s : State) (es : List Event) where
   abbrev pub event : Answer → Event

@@ -2,7 +2,7 @@
 use Rattle.std.proofs.Common.{◌≡◌, ℕ, Bool, true, false, cond, ◌&&◌, List, [], ◌∷◌, is_some, Some, None, Option, sym, refl, subst, inl, inr, ⊎_elim}
 use Rattle.std.proofs.lemmas.Bool.{and_parts}
 use Rattle.std.specs.Option.{option_map}
-use Rattle.std.specs.List.{AllByRecursion as All}
+use Rattle.std.specs.List.{AllByRecursion}
 use Rattle.register.specs.Order.{order}
 use Rattle.scheme.specs.Pieces.{Indexed}
 use Rattle.table.specs.Laws.{Ascends}
@@ -105,7 +105,7 @@ module _ (limits : Limits) (m : Meaning) (a : Assignment) (c : List ℕ) (ep : �
   -- what holds of a history and the state that it leads to
   pub record Standing (h : List Event) (s : State) : Type 0 where
     pub boxes : OwnBoxes c Hand s.peers
-    pub live : (r : Rec) → record_of c s ≡ Some r → r.round.epoch.0 ≡ ep → All (λ x. is_some (x.roster.keys ep) ≡ true) (since limits.window c h) → Live limits m a c ep Hand (since limits.window c h) r
+    pub live : (r : Rec) → record_of c s ≡ Some r → r.round.epoch.0 ≡ ep → AllByRecursion (λ x. is_some (x.roster.keys ep) ≡ true) (since limits.window c h) → Live limits m a c ep Hand (since limits.window c h) r
 
   pub standing : (h : List Event) (s : State) → Leads limits m a h s → ((k : List ℕ) (x : Indexed) → HandedIn h c k x → Hand k x) → Standing h s
   standing [] s l handed =
@@ -119,9 +119,9 @@ module _ (limits : Limits) (m : Meaning) (a : Assignment) (c : List ℕ) (ep : �
       record {
         boxes = now.boxes;
         live = λ r at in-ep.
-            subst (λ o. All (λ x. is_some (x.roster.keys ep) ≡ true) (cond (is_some o) (e ∷ since limits.window c h) []) → Live limits m a c ep Hand (cond (is_some o) (e ∷ since limits.window c h) []) r) (sym (roll_record limits m a h before l.1 c))
+            subst (λ o. AllByRecursion (λ x. is_some (x.roster.keys ep) ≡ true) (cond (is_some o) (e ∷ since limits.window c h) []) → Live limits m a c ep Hand (cond (is_some o) (e ∷ since limits.window c h) []) r) (sym (roll_record limits m a h before l.1 c))
             (by_option (λ o. Moved limits m a c ep Hand e.roster e.call before (since limits.window c h) o e.answer r →
-            All (λ x. is_some (x.roster.keys ep) ≡ true) (cond (is_some (option_map entry_of o)) (e ∷ since limits.window c h) []) → Live limits m a c ep Hand (cond (is_some (option_map entry_of o)) (e ∷ since limits.window c h) []) r) (record_of c before)
+            AllByRecursion (λ x. is_some (x.roster.keys ep) ≡ true) (cond (is_some (option_map entry_of o)) (e ∷ since limits.window c h) []) → Live limits m a c ep Hand (cond (is_some (option_map entry_of o)) (e ∷ since limits.window c h) []) r) (record_of c before)
             (λ _ live _. live)
             (λ q was moved known. moved.1 known.0 (old.live q was moved.0 known.1))
             (now.moved r at in-ep));

@@ -1,6 +1,6 @@
 -- The three promises, over the history of calls and answers. Assumes nothing.
 use Rattle.std.specs.Prelude.{◌≡◌, ℕ, ◌-◌, ◌<◌, ◌≤◌, Bool, true, T, ◌⊎◌, List, [], ◌∷◌, ◌++◌, map, length, is_some, Some, None, Ok, Option, ◌≢◌, slice_index_or}
-use Rattle.std.specs.List.{AllByRecursion as All}
+use Rattle.std.specs.List.{AllByRecursion}
 use Rattle.block.specs.declared.kind.Reading.{Reading}
 use Rattle.register.specs.Commitments.{config_at, config_of}
 use Rattle.rosters.specs.Sound.{index}
@@ -17,7 +17,7 @@ use Rattle.model.specs.declared.answer.Refusal.TheVariants.{NoBlock}
 
 abbrev pub Distinct : List ℕ → Type 0
 Distinct [] = Unit {0}
-Distinct (x ∷ xs) = All (λ y. x ≢ y) xs × Distinct xs
+Distinct (x ∷ xs) = AllByRecursion (λ y. x ≢ y) xs × Distinct xs
 
 -- a completion that answers `cached` or `short`
 abbrev pub Goes_on : Outcome → Type 0
@@ -80,7 +80,7 @@ Completing c (block_look_up d room) = ⊥
 Completing c (verified_look_up d) = ⊥
 
 abbrev pub Spares : List ℕ → Answer → Type 0
-Spares k (answered o rs a) = All (λ r. r.key ≢ k) rs
+Spares k (answered o rs a) = AllByRecursion (λ r. r.key ≢ k) rs
 Spares k (refused n) = Unit {0}
 Spares k changed_peers = Unit {0}
 Spares k (given b) = Unit {0}
@@ -104,7 +104,7 @@ module _ (limits : Limits) (m : Meaning) (a : Assignment) (h : List Event) where
   pub record Sufficient (c : List ℕ) (shards : List Indexed) : Type 0 where
     pub many : minimum_of c ≤ length shards
     pub distinct : Distinct (map index_of shards)
-    pub each : All (Good-shard c) shards
+    pub each : AllByRecursion (Good-shard c) shards
 
   -- the participant at this place handed in a good shard since the admission, and never another one there
   pub record Hands-in (c : List ℕ) (keys : List (List ℕ)) (place : ℕ) : Type 0 where
@@ -119,8 +119,8 @@ module _ (limits : Limits) (m : Meaning) (a : Assignment) (h : List Event) where
     pub held : on_roll c (roll limits.window h) ≡ Some entry
     pub distinct : Distinct places
     pub many : minimum_of c ≤ length places
-    pub each : All (Hands-in c (a.keys entry.round.epoch.0)) places
-    pub known : All (λ e. is_some (e.roster.keys entry.round.epoch.0) ≡ true) (since limits.window c h)
+    pub each : AllByRecursion (Hands-in c (a.keys entry.round.epoch.0)) places
+    pub known : AllByRecursion (λ e. is_some (e.roster.keys entry.round.epoch.0) ≡ true) (since limits.window c h)
     pub opens : (shards : List Indexed) → Sufficient c shards → Opens-to-block c shards
 
   abbrev pub asked : Rooms
@@ -130,7 +130,7 @@ module _ (limits : Limits) (m : Meaning) (a : Assignment) (h : List Event) where
   -- admission that was numbered above the participants less those has answered `cached`. `would` tells what a call would answer
   pub record Brought (would : Call → Answer) (c : List ℕ) (entry : Entry) (places : List ℕ) : Type 0 where
     pub now : ((room : ℕ) → would (block_look_up c room) ≢ refused NoBlock) ⊎ CompletesWell (would (completion c asked))
-    pub past : All (λ e. Completing c e.call → EndedAbove (length (a.keys entry.round.epoch.0) - length places) e.answer) (since limits.window c h)
+    pub past : AllByRecursion (λ e. Completing c e.call → EndedAbove (length (a.keys entry.round.epoch.0) - length places) e.answer) (since limits.window c h)
 
   abbrev pub EnoughBringTheBlock : (Call → Answer) → Type 0
   EnoughBringTheBlock would = (c : List ℕ) (entry : Entry) (places : List ℕ) → Enough c entry places → Brought would c entry places
@@ -144,7 +144,7 @@ module _ (limits : Limits) (m : Meaning) (a : Assignment) (h : List Event) where
     pub alike : (c : List ℕ) (s t : Indexed) → Good-shard c s → Good-shard c t → s.index ≡ t.index → s ≡ t
 
   abbrev pub NobodyWithoutCause : Type 0
-  NobodyWithoutCause = (k : List ℕ) → Blameless k → All (λ e. Spares k e.answer) h
+  NobodyWithoutCause = (k : List ℕ) → Blameless k → AllByRecursion (λ e. Spares k e.answer) h
 
   -- the block is what good shards, each handed in, open to with the commitment's config behind it, and fits the commitment
   pub record Handed-in-block (c block : List ℕ) : Type 0 where
@@ -152,7 +152,7 @@ module _ (limits : Limits) (m : Meaning) (a : Assignment) (h : List Event) where
     pub held : on_roll c (roll limits.window h) ≡ Some entry
     pub shards : List Indexed
     pub sufficient : Sufficient c shards
-    pub participants : All (λ s. s.index < length (a.keys entry.round.epoch.0)) shards
+    pub participants : AllByRecursion (λ s. s.index < length (a.keys entry.round.epoch.0)) shards
     pub config : List ℕ
     pub four : length config ≡ 4
     pub spelled : config_at config 0 ≡ config_of c

@@ -3,10 +3,10 @@ use Rattle.std.proofs.Common.{◌≡◌, ℕ, ◌+◌, ◌<◌, ◌≤◌, true,
 use Rattle.std.proofs.lemmas.List.FromFn.{get_or-range_with_len, length-range_with_len}
 use Rattle.std.proofs.lemmas.List.Sums.{get_or-le-sum_by, sum_by-cons}
 use Rattle.std.proofs.lemmas.Bool.{and_parts, cases_Bool, eqb-true, not-true}
-use Rattle.std.specs.List.{range_with_len, AllByRecursion as All}
+use Rattle.std.specs.List.{range_with_len, AllByRecursion}
 use Rattle.parity.specs.Codes.{distinct, has}
 
-pub has_within : (k i : ℕ) (js : List ℕ) → All (λ j. j ≤ k) js → has i js ≡ true → i ≤ k
+pub has_within : (k i : ℕ) (js : List ℕ) → AllByRecursion (λ j. j ≤ k) js → has i js ≡ true → i ≤ k
 has_within k i [] a h = let z : ◌≡◌ {A = ℕ} 0 1 = cc in absurd (omega arith)
 has_within k i (j ∷ js) (a, rest) h =
     ⊎_elim
@@ -40,7 +40,7 @@ once k j h =
     let e : ◌≡◌ {A = ℕ} (cond (eqb j (get_or (range_with_len 0 (k + 1)) j 0)) 1 0) 1 = simp (at, eq-eqb j j refl) in
     omega (arith, e, get_or-le-sum_by (λ i. cond (eqb j i) 1 0) (range_with_len 0 (k + 1)) j 0 n)
 
-pub as_many : (k : ℕ) (js : List ℕ) → distinct js ≡ true → All (λ j. j ≤ k) js → length js ≤ count_by (λ i. has i js) (range_with_len 0 (k + 1))
+pub as_many : (k : ℕ) (js : List ℕ) → distinct js ≡ true → AllByRecursion (λ j. j ≤ k) js → length js ≤ count_by (λ i. has i js) (range_with_len 0 (k + 1))
 as_many k [] d a = omega arith
 as_many k (j ∷ js) d (a, rest) =
     let ds = and_parts (not (has j js)) (distinct js) d in

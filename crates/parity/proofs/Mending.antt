@@ -4,7 +4,7 @@ use Rattle.std.proofs.lemmas.Nat.{div-add-mod', div_below, mod_below}
 use Rattle.std.proofs.lemmas.List.FromFn.{fill_by_all, get_or-map-range_with_len, length-map-range_with_len}
 use Rattle.std.proofs.lemmas.List.Sums.{sum_by-cons}
 use Rattle.std.proofs.lemmas.Bool.{cases_Bool, cond_both, cond-false, cond-true, eqb-true}
-use Rattle.std.specs.List.{range_with_len, AllByRecursion as All}
+use Rattle.std.specs.List.{range_with_len, AllByRecursion}
 use Rattle.register.specs.declared.commitment.Config.{Config}
 use Rattle.scheme.specs.Pieces.{Indexed}
 use Rattle.scheme.specs.declared.fault.Fault.TheVariants.{TooFew}
@@ -34,7 +34,7 @@ one_step true p w e f = simp (e, f refl) (omega arith)
 one_step false p w e f = omega arith
 
 -- payloads of one length whose exclusive or is nothing, and picks of them at k distinct indices or more
-module _ (k s : ℕ) (gs : List (List ℕ)) (js : List ℕ) (at : ℕ → List ℕ) (thick : 0 < s) (size : length gs ≡ k + 1) (lone : (j : ℕ) → j ≤ k → length (get_or gs j []) ≡ s) (none : (i : ℕ) → i < s → xored i gs ≡ 0) (is : (i : ℕ) → at i ≡ cond (has i js) (get_or gs i []) []) (apart : distinct js ≡ true) (low : All (λ j. j ≤ k) js) (many : k ≤ length js) where
+module _ (k s : ℕ) (gs : List (List ℕ)) (js : List ℕ) (at : ℕ → List ℕ) (thick : 0 < s) (size : length gs ≡ k + 1) (lone : (j : ℕ) → j ≤ k → length (get_or gs j []) ≡ s) (none : (i : ℕ) → i < s → xored i gs ≡ 0) (is : (i : ℕ) → at i ≡ cond (has i js) (get_or gs i []) []) (apart : distinct js ≡ true) (low : AllByRecursion (λ j. j ≤ k) js) (many : k ≤ length js) where
   abbrev pub ps : List (List ℕ)
   ps = map at (range_with_len 0 (k + 1))
 
@@ -114,12 +114,12 @@ module _ (k : ℕ) (some : 1 ≤ k) (few : k ≤ 63) (blob : List ℕ) (digest :
   there : (j : ℕ) → j ≤ k → empty (get_or (payloads k blob) j []) ≡ false
   there j h = ne_eqb (length (get_or (payloads k blob) j [])) 0 (λ z. omega (arith, z, filled k some blob few digest long j h))
 
-  pick_is : (js : List ℕ) → All (λ j. j ≤ k) js → (i : ℕ) → pick (depth k) (map (made digest k blob) js) i ≡ cond (has i js) (get_or (payloads k blob) i []) []
+  pick_is : (js : List ℕ) → AllByRecursion (λ j. j ≤ k) js → (i : ℕ) → pick (depth k) (map (made digest k blob) js) i ≡ cond (has i js) (get_or (payloads k blob) i []) []
   pick_is [] a i = refl
   pick_is (j ∷ js) (a, rest) i =
       pick-step (depth k) j i (shard digest (payloads k blob) j) (map (made digest k blob) js) (λ x. get_or (payloads k blob) x []) (has i js) (payload_is j a) (there j a) (pick_is js rest i)
 
-  pub opens : (fits : length blob < 2 ^ 32) (limit : ℕ) → length blob ≤ limit → (js : List ℕ) → distinct js ≡ true → All (λ j. j ≤ k) js → k ≤ length js → opened limit k (picks k (map (made digest k blob) js)) ≡ Ok blob
+  pub opens : (fits : length blob < 2 ^ 32) (limit : ℕ) → length blob ≤ limit → (js : List ℕ) → distinct js ≡ true → AllByRecursion (λ j. j ≤ k) js → k ≤ length js → opened limit k (picks k (map (made digest k blob) js)) ≡ Ok blob
   opens fits limit room js apart low many =
       let s : ℕ = piece_length k (length blob) in
       let gs : List (List ℕ) = payloads k blob in
@@ -132,7 +132,7 @@ module _ (k : ℕ) (some : 1 ≤ k) (few : k ≤ 63) (blob : List ℕ) (digest :
       let f = framing_is k s gs js at t n l x is apart low many (framed k blob) (framed_long k some blob) (piece_is k some blob) in
       sym (evened limit k (picks k (map (made digest k blob) js)) (counted (picks k (map (made digest k blob) js))) s refl (enough k s gs js at t n l x is apart low many) (sym (wide k s gs js at t n l x is apart low many some)) (sym (level_all k s gs js at t n l x is apart low many)) (Ok blob) (sym (ap (unframed limit k s) f ∙ frame_opens k some blob fits limit room)))
 
-pub opens_shaped : (digest : List ℕ → List ℕ) → Long digest → (config : Config) → config.extra ≡ 1 → 1 ≤ config.minimum → config.minimum ≤ 63 → (blob : List ℕ) → length blob < 2 ^ 32 → (limit : ℕ) → length blob ≤ limit → (js : List ℕ) → distinct js ≡ true → All (λ j. j ≤ config.minimum) js → config.minimum ≤ length js → parity_opens config limit (map (made digest config.minimum blob) js) ≡ Ok blob
+pub opens_shaped : (digest : List ℕ → List ℕ) → Long digest → (config : Config) → config.extra ≡ 1 → 1 ≤ config.minimum → config.minimum ≤ 63 → (blob : List ℕ) → length blob < 2 ^ 32 → (limit : ℕ) → length blob ≤ limit → (js : List ℕ) → distinct js ≡ true → AllByRecursion (λ j. j ≤ config.minimum) js → config.minimum ≤ length js → parity_opens config limit (map (made digest config.minimum blob) js) ≡ Ok blob
 opens_shaped digest long config e a b blob fits limit room js apart low many =
     cond-true (shaped config) (opened limit config.minimum (picks config.minimum (map (made digest config.minimum blob) js))) (Err TooFew) (shaped_is config e a b)
     ∙ opens config.minimum a b blob digest long fits limit room js apart low many

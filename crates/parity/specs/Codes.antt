@@ -1,6 +1,6 @@
 -- Making shards of a blob, and what the scheme is for. Assumes nothing.
 use Rattle.std.specs.Prelude.{◌≡◌, ℕ, ◌*◌, ◌^◌, ◌<◌, ◌≤◌, Bool, true, false, not, ◌&&◌, ◌||◌, List, [], ◌∷◌, ◌++◌, map, length, take, drop, Ok, ◌==◌}
-use Rattle.std.specs.List.{range_with_len, AllByRecursion as All}
+use Rattle.std.specs.List.{range_with_len, AllByRecursion}
 use Rattle.register.specs.declared.commitment.Config.{Config}
 use Rattle.scheme.specs.Pieces.{Indexed}
 use Rattle.tree.specs.Frames.{framed, piece_length}
@@ -38,5 +38,5 @@ ParityIsACode =
     → (config : Config) → config.extra ≡ 1 → 1 ≤ config.minimum → config.minimum ≤ 63
     → (blob : List ℕ) → length blob < 2 ^ 32 → (limit : ℕ) → length blob ≤ limit
     → ((j : ℕ) → j ≤ config.minimum → parity_good digest config (root digest (payloads config.minimum blob)) j (shard digest (payloads config.minimum blob) j) ≡ true)
-    × ((js : List ℕ) → distinct js ≡ true → All (λ j. j ≤ config.minimum) js → config.minimum ≤ length js
+    × ((js : List ℕ) → distinct js ≡ true → AllByRecursion (λ j. j ≤ config.minimum) js → config.minimum ≤ length js
     → parity_opens config limit (map (made digest config.minimum blob) js) ≡ Ok blob)

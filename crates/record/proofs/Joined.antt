@@ -5,7 +5,7 @@ use lib.Seq.{drop-append-le, take-set-le}
 use Rattle.std.proofs.ByRecursion.{All-append, All-drop, All-push, All-take, All-weaker}
 use Rattle.std.proofs.lemmas.List.{take-map, drop-map}
 use Rattle.std.specs.Cmp.{rank}
-use Rattle.std.specs.List.{AllByRecursion as All}
+use Rattle.std.specs.List.{AllByRecursion}
 use Rattle.places.specs.Places.{held}
 use Rattle.register.specs.Order.{order}
 use Rattle.register.specs.declared.key.Key.{Key}
@@ -90,12 +90,12 @@ module _ (width slot i : ℕ) (bytes shards after : List ℕ) (size : ℕ) (blob
   more : contributions flags ≡ contributions r.contributed + 1
   more = contributions_more r.contributed i (omega (arith, o.within, o.sound.flags)) o.fresh
 
-  old_lie : All (λ p. Lies width flags p.shard) (take r.pending_count r.pending)
+  old_lie : AllByRecursion (λ p. Lies width flags p.shard) (take r.pending_count r.pending)
   old_lie = All-weaker (λ p. Lies width r.contributed p.shard) (λ p. Lies width flags p.shard) (λ p. lies_more p.shard) (take r.pending_count r.pending) o.sound.pending_lie
 
-  received_lies : (R : List Stored) (m : ℕ) → take m R ≡ put by_index index_named stored (take r.received_count r.received) → All (Lies width flags) (take m R)
+  received_lies : (R : List Stored) (m : ℕ) → take m R ≡ put by_index index_named stored (take r.received_count r.received) → AllByRecursion (Lies width flags) (take m R)
   received_lies R m table =
-      subst (All (Lies width flags)) (sym table) (all_put by_index index_named (Lies width flags) stored (take r.received_count r.received) stored_lies (All-weaker (Lies width r.contributed) (Lies width flags) lies_more (take r.received_count r.received) o.sound.received_lie))
+      subst (AllByRecursion (Lies width flags)) (sym table) (all_put by_index index_named (Lies width flags) stored (take r.received_count r.received) stored_lies (All-weaker (Lies width r.contributed) (Lies width flags) lies_more (take r.received_count r.received) o.sound.received_lie))
 
   -- one that waits
   module _ (sender : Key) (R : List Stored) (m : ℕ) (P : List Pending) (n : ℕ) (before : r.cached ≡ false)
@@ -121,14 +121,14 @@ module _ (width slot i : ℕ) (bytes shards after : List ℕ) (size : ℕ) (blob
     pub waits-view : (c : List ℕ) → view new c slot after_wait ≡ with_contribution flags r.verified (awaiting (model.with_pending (record { sender = sender.bytes; shard = shard }) (shards_of at slot r))) (view at c slot r)
     waits-view c = ap (λ p. with_contribution flags r.verified p (view at c slot r)) (simp before (ap awaiting waits-shards))
 
-    rest_lies : All (λ p. Lies width flags p.shard) (drop r.job_pending (take n P))
-    rest_lies = subst (All (λ p. Lies width flags p.shard)) (sym waiting) (all_put by_sender sender_named (λ p. Lies width flags p.shard) (record { sender = sender; shard = stored }) (drop r.job_pending (take r.pending_count r.pending)) stored_lies (All-drop (λ p. Lies width flags p.shard) r.job_pending (take r.pending_count r.pending) old_lie))
+    rest_lies : AllByRecursion (λ p. Lies width flags p.shard) (drop r.job_pending (take n P))
+    rest_lies = subst (AllByRecursion (λ p. Lies width flags p.shard)) (sym waiting) (all_put by_sender sender_named (λ p. Lies width flags p.shard) (record { sender = sender; shard = stored }) (drop r.job_pending (take r.pending_count r.pending)) stored_lies (All-drop (λ p. Lies width flags p.shard) r.job_pending (take r.pending_count r.pending) old_lie))
 
-    front_lies : r.pending_count ≤ n → All (λ p. Lies width flags p.shard) (take r.job_pending (take n P))
+    front_lies : r.pending_count ≤ n → AllByRecursion (λ p. Lies width flags p.shard) (take r.job_pending (take n P))
     front_lies some =
         let same : take r.job_pending (take n P) ≡ take r.job_pending (take r.pending_count r.pending) =
         take-take r.job_pending n P (omega (arith, o.sound.job_pending)) ∙ out ∙ sym (take-take r.job_pending r.pending_count r.pending o.sound.job_pending) in
-        subst (All (λ p. Lies width flags p.shard)) (sym same) (All-take (λ p. Lies width flags p.shard) r.job_pending (take r.pending_count r.pending) old_lie)
+        subst (AllByRecursion (λ p. Lies width flags p.shard)) (sym same) (All-take (λ p. Lies width flags p.shard) r.job_pending (take r.pending_count r.pending) old_lie)
 
     pub waits-sound : length R ≡ 64 → length P ≡ 64 → m ≤ r.received_count + 1 → r.pending_count ≤ n → n ≤ r.pending_count + 1 → Sound width after_wait
     waits-sound long wide few some most =
@@ -144,7 +144,7 @@ module _ (width slot i : ℕ) (bytes shards after : List ℕ) (size : ℕ) (blob
           no_job = o.sound.no_job;
           received_lie = received_lies R m table;
           checked_lie = All-weaker (Lies width r.contributed) (Lies width flags) lies_more (take r.checked_count r.checked) o.sound.checked_lie;
-          pending_lie = subst (All (λ p. Lies width flags p.shard)) (take-append-drop r.job_pending (take n P)) (All-append (λ p. Lies width flags p.shard) (take r.job_pending (take n P)) (drop r.job_pending (take n P)) (front_lies some) rest_lies);
+          pending_lie = subst (AllByRecursion (λ p. Lies width flags p.shard)) (take-append-drop r.job_pending (take n P)) (All-append (λ p. Lies width flags p.shard) (take r.job_pending (take n P)) (drop r.job_pending (take n P)) (front_lies some) rest_lies);
         }
 
   -- one that has been checked
@@ -189,7 +189,7 @@ module _ (width slot i : ℕ) (bytes shards after : List ℕ) (size : ℕ) (blob
           job_pending = o.sound.job_pending;
           no_job = o.sound.no_job;
           received_lie = received_lies R m table;
-          checked_lie = subst (All (Lies width flags)) (sym checked_more) (All-push (Lies width flags) (take r.checked_count r.checked) stored (All-weaker (Lies width r.contributed) (Lies width flags) lies_more (take r.checked_count r.checked) o.sound.checked_lie) stored_lies);
+          checked_lie = subst (AllByRecursion (Lies width flags)) (sym checked_more) (All-push (Lies width flags) (take r.checked_count r.checked) stored (All-weaker (Lies width r.contributed) (Lies width flags) lies_more (take r.checked_count r.checked) o.sound.checked_lie) stored_lies);
           pending_lie = old_lie;
         }
 

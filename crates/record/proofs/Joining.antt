@@ -3,7 +3,7 @@ use Rattle.std.proofs.Common.{◌≡◌, ℕ, ◌+◌, ◌-◌, ◌*◌, ◌<◌
 use native.Mathlib.Decide.{dec_lt}
 use Rattle.std.proofs.lemmas.List.{take-map, drop-map}
 use Rattle.std.specs.Cmp.{rank}
-use Rattle.std.specs.List.{AllByRecursion as All}
+use Rattle.std.specs.List.{AllByRecursion}
 use Rattle.places.specs.Places.{held}
 use Rattle.register.specs.Order.{order}
 use Rattle.scheme.specs.Pieces.{Indexed}
@@ -18,7 +18,7 @@ use Rattle.record.specs.declared.stored.Pending.{Pending}
 use Rattle.record.specs.declared.stored.Stored.{Stored}
 
 -- two meanings that agree on every element
-pub map_alike : {X Y : Type 0} (P : X → Type 0) (f g : X → Y) (xs : List X) → ((x : X) → P x → f x ≡ g x) → All P xs → map f xs ≡ map g xs
+pub map_alike : {X Y : Type 0} (P : X → Type 0) (f g : X → Y) (xs : List X) → ((x : X) → P x → f x ≡ g x) → AllByRecursion P xs → map f xs ≡ map g xs
 map_alike P f g [] h all = refl
 map_alike P f g (x ∷ xs) h all = let a = h x all.0 in let b = map_alike P f g xs h all.1 in cc
 
@@ -55,10 +55,10 @@ module _ (width slot i : ℕ) (shards after : List ℕ) (size : ℕ) (blobs : Li
   sent_still p l = ap (λ x. record { sender = p.sender.bytes; shard = x }) (lies_still p.shard l)
 
   -- a table of stored shards with one put in
-  pub stored_put : (e : Stored) (xs : List Stored) → All (Lies width flags) xs → map (shard_in new slot) (put by_index index_named e xs) ≡ put rank index_of (shard_in new slot e) (map (shard_in at slot) xs)
+  pub stored_put : (e : Stored) (xs : List Stored) → AllByRecursion (Lies width flags) xs → map (shard_in new slot) (put by_index index_named e xs) ≡ put rank index_of (shard_in new slot e) (map (shard_in at slot) xs)
   stored_put e xs all = map-put by_index index_named rank index_of (shard_in new slot) e xs (λ x. refl) ∙ ap (put rank index_of (shard_in new slot e)) (map_alike (Lies width flags) (shard_in new slot) (shard_in at slot) xs lies_still all)
 
-  pub sent_put : (e : Pending) (xs : List Pending) → All (λ p. Lies width flags p.shard) xs → map (sent_in new slot) (put by_sender sender_named e xs) ≡ put order sender_of (sent_in new slot e) (map (sent_in at slot) xs)
+  pub sent_put : (e : Pending) (xs : List Pending) → AllByRecursion (λ p. Lies width flags p.shard) xs → map (sent_in new slot) (put by_sender sender_named e xs) ≡ put order sender_of (sent_in new slot e) (map (sent_in at slot) xs)
   sent_put e xs all = map-put by_sender sender_named order sender_of (sent_in new slot) e xs (λ x. refl) ∙ ap (put order sender_of (sent_in new slot e)) (map_alike (λ p. Lies width flags p.shard) (sent_in new slot) (sent_in at slot) xs sent_still all)
 
 -- what is stored in one slot leaves the other slots

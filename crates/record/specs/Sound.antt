@@ -1,6 +1,6 @@
 -- What holds of every record between calls, so that its shards can be read and there is room for the next. Assumes nothing.
 use Rattle.std.specs.Prelude.{◌≡◌, ℕ, ◌+◌, ◌<◌, ◌≤◌, Bool, true, false, cond, List, [], ◌∷◌, length, take, slice_index_or}
-use Rattle.std.specs.List.{AllByRecursion as All}
+use Rattle.std.specs.List.{AllByRecursion}
 use Rattle.record.specs.declared.record.Record.{Record}
 use Rattle.record.specs.declared.stored.Pending.{Pending}
 use Rattle.record.specs.declared.stored.Stored.{Stored}
@@ -33,9 +33,9 @@ pub record Sound (width : ℕ) (r : Record) : Type 0 where
   pub job_checked : r.job_checked ≤ r.checked_count
   pub job_pending : r.job_pending ≤ r.pending_count
   pub no_job : r.job ≡ false → (r.job_checked ≡ 0) × (r.job_pending ≡ 0)
-  pub received_lie : All (Lies width r.contributed) (take r.received_count r.received)
-  pub checked_lie : All (Lies width r.contributed) (take r.checked_count r.checked)
-  pub pending_lie : All (λ p. Lies width r.contributed p.shard) (take r.pending_count r.pending)
+  pub received_lie : AllByRecursion (Lies width r.contributed) (take r.received_count r.received)
+  pub checked_lie : AllByRecursion (Lies width r.contributed) (take r.checked_count r.checked)
+  pub pending_lie : AllByRecursion (λ p. Lies width r.contributed p.shard) (take r.pending_count r.pending)
 
 -- a job holds at least the minimum
 abbrev pub Filled : ℕ → Record → Type 0

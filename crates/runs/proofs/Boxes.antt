@@ -3,7 +3,7 @@ use Rattle.std.proofs.Common.{◌≡◌, ℕ, zero, suc, ◌-◌, Bool, true, co
 use Rattle.std.proofs.ByRecursion.{All-append, All-drop, All-map, All-take, All-weaker}
 use Rattle.std.proofs.lemmas.Slice.Eq.{bytes_eq-Decides}
 use Rattle.std.proofs.lemmas.Bool.{and_parts, cond_both}
-use Rattle.std.specs.List.{AllByRecursion as All}
+use Rattle.std.specs.List.{AllByRecursion}
 use Rattle.std.specs.Str.{bytes_eq}
 use Rattle.register.specs.Order.{order}
 use Rattle.rosters.specs.Sound.{index}
@@ -17,22 +17,22 @@ pub same_bytes : (xs ys : List ℕ) → bytes_eq xs ys ≡ true → xs ≡ ys
 same_bytes xs ys h = (bytes_eq-Decides xs ys).0 h
 
 module _ {X : Type 0} (P : X → Type 0) where
-  all_turned : (xs : List X) → All P xs → All P (turned xs)
+  all_turned : (xs : List X) → AllByRecursion P xs → AllByRecursion P (turned xs)
   all_turned xs all = All-append P (drop (length xs - 1) xs) (take (length xs - 1) xs) (All-drop P (length xs - 1) xs all) (All-take P (length xs - 1) xs all)
 
-  pub drawn_all : (wanted : X → Bool) (n : ℕ) (xs : List X) → All P xs → All (λ x. P x × (wanted x ≡ true)) (drawn_from wanted n xs)
+  pub drawn_all : (wanted : X → Bool) (n : ℕ) (xs : List X) → AllByRecursion P xs → AllByRecursion (λ x. P x × (wanted x ≡ true)) (drawn_from wanted n xs)
   drawn_all wanted zero xs all = tt
   drawn_all wanted (suc n) [] all = tt
   drawn_all wanted (suc n) (x ∷ xs) all =
-      cond_both (wanted x) (x ∷ drawn_from wanted n (turned xs)) (drawn_from wanted n xs) (All (λ y. P y × (wanted y ≡ true)))
+      cond_both (wanted x) (x ∷ drawn_from wanted n (turned xs)) (drawn_from wanted n xs) (AllByRecursion (λ y. P y × (wanted y ≡ true)))
       (λ t. ((all.0, t), drawn_all wanted n (turned xs) (all_turned xs all.1)))
       (λ _. drawn_all wanted n xs all.1)
 
-  pub left_all : (wanted : X → Bool) (n : ℕ) (xs : List X) → All P xs → All P (left_from wanted n xs)
+  pub left_all : (wanted : X → Bool) (n : ℕ) (xs : List X) → AllByRecursion P xs → AllByRecursion P (left_from wanted n xs)
   left_all wanted zero xs all = all
   left_all wanted (suc n) [] all = tt
   left_all wanted (suc n) (x ∷ xs) all =
-      cond_both (wanted x) (left_from wanted n (turned xs)) (x ∷ left_from wanted n xs) (All P)
+      cond_both (wanted x) (left_from wanted n (turned xs)) (x ∷ left_from wanted n xs) (AllByRecursion P)
       (λ _. left_all wanted n (turned xs) (all_turned xs all.1))
       (λ _. (all.0, left_all wanted n xs all.1))
 
@@ -42,34 +42,34 @@ module _ (H : List ℕ → List ℕ → Indexed → Type 0) where
   Brought k e = H e.commitment k e.shard
 
   abbrev pub Filled : Peer → Type 0
-  Filled p = All (Brought p.key) p.box
+  Filled p = AllByRecursion (Brought p.key) p.box
 
-  pub renewed-filled : (ks : List (List ℕ)) (ps : List Peer) → All Filled ps → All Filled (renewed ks ps)
+  pub renewed-filled : (ks : List (List ℕ)) (ps : List Peer) → AllByRecursion Filled ps → AllByRecursion Filled (renewed ks ps)
   renewed-filled [] ps all = tt
   renewed-filled (k ∷ ks) ps all = (
-    by_option (λ o. All (Brought k) (box_of o)) (look order key_of k ps)
+    by_option (λ o. AllByRecursion (Brought k) (box_of o)) (look order key_of k ps)
         (λ _. tt)
-        (λ p at. subst (λ j. All (Brought j) p.box) (found_key key_of k ps p at) (all_look order key_of Filled k ps p at all)),
+        (λ p at. subst (λ j. AllByRecursion (Brought j) p.box) (found_key key_of k ps p at) (all_look order key_of Filled k ps p at all)),
     renewed-filled ks ps all,
   )
 
-  pub boxed-filled : (limit : ℕ) (k : List ℕ) (e : Early) (ps : List Peer) → Brought k e → All Filled ps → All Filled (boxes_with limit k e ps)
+  pub boxed-filled : (limit : ℕ) (k : List ℕ) (e : Early) (ps : List Peer) → Brought k e → AllByRecursion Filled ps → AllByRecursion Filled (boxes_with limit k e ps)
   boxed-filled limit k e ps h all =
       all_changed order key_of Filled (λ p. with_box (boxed limit e p.box) p) k ps
       (λ p at filled.
       let h' = subst (λ j. Brought j e) (sym (found_key key_of k ps p at)) h in
       All-append (Brought p.key) (cond (ltb (length p.box) limit) p.box (drop 1 p.box)) (e ∷ [])
-      (cond_both (ltb (length p.box) limit) p.box (drop 1 p.box) (All (Brought p.key)) (λ _. filled) (λ _. All-drop (Brought p.key) 1 p.box filled))
+      (cond_both (ltb (length p.box) limit) p.box (drop 1 p.box) (AllByRecursion (Brought p.key)) (λ _. filled) (λ _. All-drop (Brought p.key) 1 p.box filled))
       (h', tt))
       all
 
-  pub left-filled : (wanted : List ℕ → Early → Bool) (ps : List Peer) → All Filled ps → All Filled (all_left wanted ps)
+  pub left-filled : (wanted : List ℕ → Early → Bool) (ps : List Peer) → AllByRecursion Filled ps → AllByRecursion Filled (all_left wanted ps)
   left-filled wanted ps all =
       All-map Filled (emptied wanted) ps
       (All-weaker Filled (λ p. Filled (emptied wanted p)) (λ p filled. left_all (Brought p.key) (wanted p.key) (length p.box) p.box filled) ps all)
 
   -- what is drawn for a commitment was handed in for it
-  pub drawn_brought : (c : List ℕ) (led : Bool) (keys : List (List ℕ)) (ps : List Peer) → All Filled ps → All (λ p. H c p.sender p.shard) (all_drawn (wanted_by c led keys) ps)
+  pub drawn_brought : (c : List ℕ) (led : Bool) (keys : List (List ℕ)) (ps : List Peer) → AllByRecursion Filled ps → AllByRecursion (λ p. H c p.sender p.shard) (all_drawn (wanted_by c led keys) ps)
   drawn_brought c led keys [] all = tt
   drawn_brought c led keys (p ∷ ps) all =
       let Q : Sent → Type 0 = λ x. H c x.sender x.shard in

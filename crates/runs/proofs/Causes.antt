@@ -3,7 +3,7 @@ use Rattle.std.proofs.Common.{◌≡◌, ℕ, Bool, true, not, List, [], ◌∷�
 use Rattle.std.proofs.ByRecursion.{All-weaker}
 use Rattle.std.proofs.lemmas.Slice.Eq.{bytes_eq-Decides}
 use Rattle.std.proofs.lemmas.Bool.{both_ways, cond_both, not-true}
-use Rattle.std.specs.List.{AllByRecursion as All}
+use Rattle.std.specs.List.{AllByRecursion}
 use Rattle.std.specs.Str.{bytes_eq}
 use Rattle.rosters.specs.Sound.{index}
 use Rattle.scheme.specs.Pieces.{Indexed}
@@ -75,18 +75,18 @@ module _ (limits : Limits) (m : Meaning) (a : Assignment) (h : List Event) (k : 
       })
 
   -- a pending shard that a job found bad is not from k
-  bad_others : (c : List ℕ) (e : ℕ) → A c e → (ps : List Sent) → All (Pending limits m a H A c e) ps → All (λ p. Another p.sender) (filter (λ p. not (good_for m limits.blob c p.shard)) ps)
+  bad_others : (c : List ℕ) (e : ℕ) → A c e → (ps : List Sent) → AllByRecursion (Pending limits m a H A c e) ps → AllByRecursion (λ p. Another p.sender) (filter (λ p. not (good_for m limits.blob c p.shard)) ps)
   bad_others c e named [] all = tt
   bad_others c e named (p ∷ ps) all =
       let test : Sent → Bool = λ x. not (good_for m limits.blob c x.shard) in
-      cond_both (test p) (p ∷ filter test ps) (filter test ps) (All (λ x. Another x.sender))
+      cond_both (test p) (p ∷ filter test ps) (filter test ps) (AllByRecursion (λ x. Another x.sender))
       (λ t. (
         (λ same. both_ways (good_for m limits.blob c p.shard) (not-true _ t) (blameless.good c e p.shard named (subst (λ j. H c j p.shard) same all.0.handed))),
         bad_others c e named ps all.1,
       ))
       (λ _. bad_others c e named ps all.1)
 
-  blamed : (j : Job) (r : Rec) → job_in r.phase ≡ Some j → FineHere r → All (λ p. Another p.sender) (failing m limits.blob r.commitment j)
+  blamed : (j : Job) (r : Rec) → job_in r.phase ≡ Some j → FineHere r → AllByRecursion (λ p. Another p.sender) (failing m limits.blob r.commitment j)
   blamed j r out fine =
       bad_others r.commitment r.round.epoch.0 fine.announced j.pending
       (out_of limits m a H A r.commitment r.round.epoch.0 r.contributed r.phase j out fine.holds).pending
@@ -109,7 +109,7 @@ module _ (limits : Limits) (m : Meaning) (a : Assignment) (h : List Event) (k : 
   spares (given b) all = tt
   spares (told b) all = tt
 
-  all_spared : (s : State) → Leads limits m a h s → All (λ e. Spares k e.answer) h
+  all_spared : (s : State) → Leads limits m a h s → AllByRecursion (λ e. Spares k e.answer) h
   all_spared s l =
       All-weaker (λ (e : Event). Reports Another e.answer) (λ (e : Event). Spares k e.answer) (λ e. spares e.answer) h
       (reached limits m a H A FineHere Another keeps h s l (all_tell limits m a H A FineHere Another h (λ _ _ _ z. z) (λ _ _ z. z))).reports

@@ -6,7 +6,7 @@ use Rattle.std.proofs.lemmas.Bool.{cond_both, cond-false, le-ltb, ltb-false, ltb
 use Rattle.std.proofs.lemmas.Bool.Decides.{nat_tests}
 use Rattle.std.specs.Cmp.{nat_cmp_total}
 use Rattle.std.specs.Option.{option_map}
-use Rattle.std.specs.List.{AllByRecursion as All}
+use Rattle.std.specs.List.{AllByRecursion}
 use Rattle.register.specs.ByteOrder.{order_ascends, order_reverses, order_same, order_ties}
 use Rattle.register.specs.Order.{order}
 use Rattle.register.specs.declared.counters.Round.{Round}
@@ -47,7 +47,7 @@ pub differ : (a b : List ℕ) → (a ≡ b → ⊥) → order a b ≡ Equal → 
 differ a b h e = h (order_same a b e)
 
 module _ {K E : Type 0} (order : K → K → Ordering) (key : E → K) where
-  pub all_put : (P : E → Type 0) (e : E) (xs : List E) → P e → All P xs → All P (put order key e xs)
+  pub all_put : (P : E → Type 0) (e : E) (xs : List E) → P e → AllByRecursion P xs → AllByRecursion P (put order key e xs)
   all_put P e [] h all = (h, tt)
   all_put P e (x ∷ xs) h all =
       by_order (order (key x) (key e))
@@ -55,7 +55,7 @@ module _ {K E : Type 0} (order : K → K → Ordering) (key : E → K) where
       (λ q. simp q all)
       (λ m. simp m (h, all))
 
-  pub all_without : (P : E → Type 0) (k : K) (xs : List E) → All P xs → All P (without order key k xs)
+  pub all_without : (P : E → Type 0) (k : K) (xs : List E) → AllByRecursion P xs → AllByRecursion P (without order key k xs)
   all_without P k [] all = tt
   all_without P k (x ∷ xs) all =
       by_order (order (key x) k)
@@ -63,7 +63,7 @@ module _ {K E : Type 0} (order : K → K → Ordering) (key : E → K) where
       (λ q. simp q all.1)
       (λ m. simp m all)
 
-  pub all_changed : (P : E → Type 0) (f : E → E) (k : K) (xs : List E) → ((x : E) → look order key k xs ≡ Some x → P x → P (f x)) → All P xs → All P (changed order key f k xs)
+  pub all_changed : (P : E → Type 0) (f : E → E) (k : K) (xs : List E) → ((x : E) → look order key k xs ≡ Some x → P x → P (f x)) → AllByRecursion P xs → AllByRecursion P (changed order key f k xs)
   all_changed P f k [] h all = tt
   all_changed P f k (x ∷ xs) h all =
       by_order (order (key x) k)
@@ -72,7 +72,7 @@ module _ {K E : Type 0} (order : K → K → Ordering) (key : E → K) where
       (λ m. simp m all)
 
   -- what is found is an entry
-  pub all_look : (P : E → Type 0) (k : K) (xs : List E) (e : E) → look order key k xs ≡ Some e → All P xs → P e
+  pub all_look : (P : E → Type 0) (k : K) (xs : List E) (e : E) → look order key k xs ≡ Some e → AllByRecursion P xs → P e
   all_look P k [] e h all = never_some e (P e) h
   all_look P k (x ∷ xs) e h all =
       by_order (order (key x) k)
@@ -146,7 +146,7 @@ module _ {K E : Type 0} (order : K → K → Ordering) (key : E → K) where
       (λ m. simp m (omega arith))
 
   -- each entry of an ascending list is found under its key
-  pub all_looks : Lawful order → (xs : List E) → Ascends order key xs → All (λ y. look order key (key y) xs ≡ Some y) xs
+  pub all_looks : Lawful order → (xs : List E) → Ascends order key xs → AllByRecursion (λ y. look order key (key y) xs ≡ Some y) xs
   all_looks laws [] up = tt
   all_looks laws (x ∷ xs) up =
       All-from_get_or (λ y. look order key (key y) (x ∷ xs) ≡ Some y) (x ∷ xs) x (λ i h. (table_laws order key laws).all_found (x ∷ xs) i x up h)
@@ -208,7 +208,7 @@ module _ {E : Type 0} (key : E → List ℕ) where
       (λ m. simp (m, ap (λ k. order k j) (sym same) ∙ m))))
       (λ m. simp m)
 
-  all_below : (e : E) (a : List ℕ) (xs : List E) → All (λ y. order a (key y) ≡ Less) xs → All (λ y. order a (key y) ≡ Less) (changed order key (λ _. e) (key e) xs)
+  all_below : (e : E) (a : List ℕ) (xs : List E) → AllByRecursion (λ y. order a (key y) ≡ Less) xs → AllByRecursion (λ y. order a (key y) ≡ Less) (changed order key (λ _. e) (key e) xs)
   all_below e a xs all =
       all_changed order key (λ y. order a (key y) ≡ Less) (λ _. e) (key e) xs (λ x at less. ap (order a) (sym (found_key (key e) xs x at)) ∙ less) all
 
@@ -217,7 +217,7 @@ module _ {E : Type 0} (key : E → List ℕ) where
   replaced_ascends e (x ∷ xs) up =
       by_order (order (key x) (key e))
       (λ l. simp l (all_below e (key x) xs up.0, replaced_ascends e xs up.1))
-      (λ q. let same = order_same (key x) (key e) q in simp q (subst (λ k. All (λ y. order k (key y) ≡ Less) xs) same up.0, up.1))
+      (λ q. let same = order_same (key x) (key e) q in simp q (subst (λ k. AllByRecursion (λ y. order k (key y) ≡ Less) xs) same up.0, up.1))
       (λ m. simp m up)
 
 -- the window
@@ -226,7 +226,7 @@ module _ {E : Type 0} (round : E → Round) (key : E → List ℕ) where
   lower_all P x None h rest = h
   lower_all P x (Some y) h rest = cond_both (lower (round y) (round x)) y x P (λ _. rest) (λ _. h)
 
-  pub all_lowest : (P : E → Type 0) (xs : List E) → All P xs → IfSome (lowest round key xs) P
+  pub all_lowest : (P : E → Type 0) (xs : List E) → AllByRecursion P xs → IfSome (lowest round key xs) P
   all_lowest P [] all = tt
   all_lowest P (x ∷ xs) all = lower_all P x (lowest round key xs) all.0 (all_lowest P xs all.1)
 
@@ -249,13 +249,13 @@ module _ {E : Type 0} (round : E → Round) (key : E → List ℕ) where
   pub trimmed_few : (window : ℕ) (xs : List E) → length xs ≤ window → trimmed round key window xs ≡ xs
   trimmed_few window xs few = cond-false (ltb window (length xs)) (leaves round key (lowest round key xs) xs) xs (le-ltb window (length xs) few)
 
-  leaves_all : (P : E → Type 0) (o : Option E) (xs : List E) → All P xs → All P (leaves round key o xs)
+  leaves_all : (P : E → Type 0) (o : Option E) (xs : List E) → AllByRecursion P xs → AllByRecursion P (leaves round key o xs)
   leaves_all P None xs all = all
   leaves_all P (Some x) xs all = all_without order key P (key x) xs all
 
-  pub all_trimmed : (P : E → Type 0) (window : ℕ) (xs : List E) → All P xs → All P (trimmed round key window xs)
+  pub all_trimmed : (P : E → Type 0) (window : ℕ) (xs : List E) → AllByRecursion P xs → AllByRecursion P (trimmed round key window xs)
   all_trimmed P window xs all =
-      cond_both (ltb window (length xs)) (leaves round key (lowest round key xs) xs) xs (All P) (λ _. leaves_all P (lowest round key xs) xs all) (λ _. all)
+      cond_both (ltb window (length xs)) (leaves round key (lowest round key xs) xs) xs (AllByRecursion P) (λ _. leaves_all P (lowest round key xs) xs all) (λ _. all)
 
   pub trimmed_ascends : (window : ℕ) (xs : List E) → Ascends order key xs → Ascends order key (trimmed round key window xs)
   trimmed_ascends window xs up =

@@ -1,6 +1,6 @@
 -- What holds of every record and of every box in every state that a history leads to.
 use Rattle.std.proofs.Common.{ℕ, List, [], ◌∷◌, IfSome}
-use Rattle.std.specs.List.{AllByRecursion as All}
+use Rattle.std.specs.List.{AllByRecursion}
 use Rattle.model.specs.Histories.{Announced, Assignment, Event, HandedIn, Leads}
 use Rattle.model.specs.Meaning.{Meaning}
 use Rattle.model.specs.State.{Limits, State}
@@ -10,7 +10,7 @@ use Rattle.runs.proofs.Reached.{Keeps, Reached, reached}
 use Rattle.runs.proofs.Records.{FineRecord, completed_fine, new_fine, observed_fine, taken_fine, tried_fine}
 use Rattle.runs.proofs.Told.{all_tell}
 
-all_anything : {X : Type 0} (xs : List X) → All (λ _. Unit {0}) xs
+all_anything : {X : Type 0} (xs : List X) → AllByRecursion (λ _. Unit {0}) xs
 all_anything [] = tt
 all_anything (x ∷ xs) = (tt, all_anything xs)
 
@@ -36,8 +36,8 @@ module _ (limits : Limits) (m : Meaning) (a : Assignment) (h : List Event) where
         reached limits m a (HandedIn h) (Announced h) (FineRecord limits m a (HandedIn h) (Announced h)) Anybody keeps h s leads
         (all_tell limits m a (HandedIn h) (Announced h) (FineRecord limits m a (HandedIn h) (Announced h)) Anybody h (λ _ _ _ z. z) (λ _ _ z. z))
 
-    pub records_fine : All (FineRecord limits m a (HandedIn h) (Announced h)) s.records
+    pub records_fine : AllByRecursion (FineRecord limits m a (HandedIn h) (Announced h)) s.records
     records_fine = here.sound.records
 
-    pub boxes_filled : All (Filled (HandedIn h)) s.peers
+    pub boxes_filled : AllByRecursion (Filled (HandedIn h)) s.peers
     boxes_filled = here.sound.boxes

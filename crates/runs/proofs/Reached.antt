@@ -2,7 +2,7 @@
 use Rattle.std.proofs.Common.{◌≡◌, ℕ, true, List, [], ◌∷◌, is_some, IfSome, Some, None, Option, sym, refl, ap, ◌∙◌, subst}
 use Rattle.std.proofs.ByRecursion.{All-append, All-map}
 use Rattle.std.proofs.lemmas.Bool.{cond_both}
-use Rattle.std.specs.List.{AllByRecursion as All}
+use Rattle.std.specs.List.{AllByRecursion}
 use Rattle.register.specs.Order.{order}
 use Rattle.register.specs.declared.counters.Round.{Round}
 use Rattle.rosters.specs.Roster.{Fair}
@@ -35,7 +35,7 @@ seated a roster e keys agrees known =
 
 -- every key that an answer reports is one of which R holds
 abbrev pub Reports : (List ℕ → Type 0) → Answer → Type 0
-Reports R (answered o rs x) = All (λ (r : Report). R r.key) rs
+Reports R (answered o rs x) = AllByRecursion (λ (r : Report). R r.key) rs
 Reports R (refused n) = Unit {0}
 Reports R changed_peers = Unit {0}
 Reports R (given b) = Unit {0}
@@ -50,11 +50,11 @@ module _ (limits : Limits) (m : Meaning) (a : Assignment) (H : List ℕ → List
     pub taken : (keys : List (List ℕ)) (own : Option ℕ) (sender : List ℕ) (s : Indexed) (r : Rec) → Seated a r.round.epoch.0 keys own → H r.commitment sender s → P r → P (intake m limits.blob keys own sender s r).rec × IfSome (intake m limits.blob keys own sender s r).report (λ _. R sender)
     pub tried : (r : Rec) → P r → P (tries r)
     pub completed : (j : Job) (r : Rec) → job_in r.phase ≡ Some j → P r → IfSome (completes m limits.blob j r).rec P
-    pub blamed : (j : Job) (r : Rec) → job_in r.phase ≡ Some j → P r → All (λ p. R p.sender) (failing m limits.blob r.commitment j)
+    pub blamed : (j : Job) (r : Rec) → job_in r.phase ≡ Some j → P r → AllByRecursion (λ p. R p.sender) (failing m limits.blob r.commitment j)
 
   pub record Sound (s : State) : Type 0 where
-    pub records : All P s.records
-    pub boxes : All (Filled H) s.peers
+    pub records : AllByRecursion P s.records
+    pub boxes : AllByRecursion (Filled H) s.peers
 
   -- what a call brings and names, where it was not turned down
   pub record Tells (call : Call) (answer : Answer) : Type 0 where
@@ -66,7 +66,7 @@ module _ (limits : Limits) (m : Meaning) (a : Assignment) (H : List ℕ → List
     pub reports : Reports R t.answer
 
   module _ (keeps : Keeps) (roster : Roster) (agrees : Agrees a roster) where
-    told_key : (k : List ℕ) (o : Option Reason) → IfSome o (λ _. R k) → All (λ (r : Report). R r.key) (reported k o)
+    told_key : (k : List ℕ) (o : Option Reason) → IfSome o (λ _. R k) → AllByRecursion (λ (r : Report). R r.key) (reported k o)
     told_key k None h = tt
     told_key k (Some reason) h = (h, tt)
 
@@ -76,7 +76,7 @@ module _ (limits : Limits) (m : Meaning) (a : Assignment) (H : List ℕ → List
         commitment : i.rec.commitment ≡ c
         epoch : i.rec.round.epoch.0 ≡ e
         holds : P i.rec
-        reports : All (λ (r : Report). R r.key) i.reports
+        reports : AllByRecursion (λ (r : Report). R r.key) i.reports
 
       one : (i : Ingested) (p : Sent) → Going i → H c p.sender p.shard → Going (taken limits m roster keys e i p)
       one i p going h =
@@ -92,7 +92,7 @@ module _ (limits : Limits) (m : Meaning) (a : Assignment) (H : List ℕ → List
             reports = All-append (λ (r : Report). R r.key) i.reports (reported p.sender (intake m limits.blob keys (roster.own e) p.sender p.shard i.rec).report) going.reports (told_key p.sender _ next.1);
           }
 
-      many : (i : Ingested) (ps : List Sent) → Going i → All (λ p. H c p.sender p.shard) ps → Going (all_taken limits m roster keys e i ps)
+      many : (i : Ingested) (ps : List Sent) → Going i → AllByRecursion (λ p. H c p.sender p.shard) ps → Going (all_taken limits m roster keys e i ps)
       many i [] going all = going
       many i (p ∷ ps) going all = many (taken limits m roster keys e i p) ps (one i p going all.0) all.1
 
@@ -101,7 +101,7 @@ module _ (limits : Limits) (m : Meaning) (a : Assignment) (H : List ℕ → List
 
     module _ (s : State) (sound : Sound s) where
       -- box intake, where the store takes any record of which P holds
-      drawing : (store : Rec → List Rec) (r : Rec) → ((x : Rec) → P x → All P (store x)) → P r → Leaves (box_intake limits m roster store r s)
+      drawing : (store : Rec → List Rec) (r : Rec) → ((x : Rec) → P x → AllByRecursion P (store x)) → P r → Leaves (box_intake limits m roster store r s)
       drawing store r stores holds =
           box_ways limits m roster s Leaves store r
           (λ _. record { sound = record { records = stores r holds; boxes = sound.boxes }; reports = tt })
@@ -118,10 +118,10 @@ module _ (limits : Limits) (m : Meaning) (a : Assignment) (H : List ℕ → List
             reports = going.reports;
           })
 
-      put_back : (x : Rec) → P x → All P (replaced x s.records)
+      put_back : (x : Rec) → P x → AllByRecursion P (replaced x s.records)
       put_back x h = all_changed order filed_under P (λ _. x) x.commitment s.records (λ _ _ _. h) sound.records
 
-      put_in : (x : Rec) → P x → All P (entered x s.records)
+      put_in : (x : Rec) → P x → AllByRecursion P (entered x s.records)
       put_in x h = all_put order filed_under P x s.records h sound.records
 
       held : (c : List ℕ) (r : Rec) → record_of c s ≡ Some r → P r
@@ -160,7 +160,7 @@ module _ (limits : Limits) (m : Meaning) (a : Assignment) (H : List ℕ → List
                 };
           })
 
-      outliving : (c : List ℕ) (o : Option Rec) → IfSome o P → All P (outlives limits m roster o c s.records)
+      outliving : (c : List ℕ) (o : Option Rec) → IfSome o P → AllByRecursion P (outlives limits m roster o c s.records)
       outliving c None h = all_without order filed_under P c s.records sound.records
       outliving c (Some x) h = put_back x h
 
@@ -169,7 +169,7 @@ module _ (limits : Limits) (m : Meaning) (a : Assignment) (H : List ℕ → List
           completion_ways limits m roster s Leaves c (record { sound = sound; reports = tt })
           (λ r j at out.
           let ended = completes m limits.blob j r in
-          let bad : All (λ p. R p.sender) (failing m limits.blob c j) = subst (λ d. All (λ (p : Sent). R p.sender) (failing m limits.blob d j)) (found_key filed_under c s.records r at) (keeps.blamed j r out (held c r at)) in
+          let bad : AllByRecursion (λ p. R p.sender) (failing m limits.blob c j) = subst (λ d. AllByRecursion (λ (p : Sent). R p.sender) (failing m limits.blob d j)) (found_key filed_under c s.records r at) (keeps.blamed j r out (held c r at)) in
           record {
             sound = record { records = outliving c ended.rec (keeps.completed j r out (held c r at)); boxes = sound.boxes };
             reports = All-map (λ (r : Report). R r.key) _ (failing m limits.blob c j) bad;
@@ -212,9 +212,9 @@ module _ (limits : Limits) (m : Meaning) (a : Assignment) (H : List ℕ → List
 
   pub record Reached (h : List Event) (s : State) : Type 0 where
     pub sound : Sound s
-    pub reports : All (λ (e : Event). Reports R e.answer) h
+    pub reports : AllByRecursion (λ (e : Event). Reports R e.answer) h
 
-  pub reached : Keeps → (h : List Event) (s : State) → Leads limits m a h s → All (λ (e : Event). Tells e.call e.answer) h → Reached h s
+  pub reached : Keeps → (h : List Event) (s : State) → Leads limits m a h s → AllByRecursion (λ (e : Event). Tells e.call e.answer) h → Reached h s
   reached keeps [] s l all = record { sound = subst Sound (sym l) (record { records = tt; boxes = tt }); reports = tt }
   reached keeps (e ∷ h) s l all =
       let before = l.0 in

@@ -3,7 +3,7 @@ use Rattle.std.proofs.Common.{◌≡◌, ℕ, ◌+◌, ◌-◌, ◌<◌, ◌≤�
 use lib.ListN.{length-replicate}
 use Rattle.std.proofs.ByRecursion.{All-append, All-drop, All-push, All-take}
 use Rattle.std.proofs.lemmas.Bool.{both_ways, cond_both, eqb-true, leb-true}
-use Rattle.std.specs.List.{AllByRecursion as All}
+use Rattle.std.specs.List.{AllByRecursion}
 use Rattle.block.specs.declared.blob.Misfit.{Misfit}
 use Rattle.block.specs.declared.kind.Reading.{Reading}
 use Rattle.reconstruct.specs.Rebuilt.{raised, rebuilt}
@@ -62,14 +62,14 @@ module _ (limits : Limits) (m : Meaning) (a : Assignment) (H : List ℕ → List
     pub cause : (good_for m limits.blob c x ≡ true) ⊎ ((index sender (a.keys e) ≡ Some x.index) × (a.own e ≡ Some x.index → ⊥))
 
   pub record Out (c : List ℕ) (e : ℕ) (j : Job) : Type 0 where
-    pub checked : All (Checked c e) j.checked
-    pub pending : All (Pending c e) j.pending
+    pub checked : AllByRecursion (Checked c e) j.checked
+    pub pending : AllByRecursion (Pending c e) j.pending
     pub enough : minimum_of c ≤ length j.checked + length j.pending
 
   pub record Awaits (c : List ℕ) (e : ℕ) (flags : List Bool) (w : Shards) : Type 0 where
-    pub received : All (Received c e) w.received
-    pub checked : All (Checked c e) w.checked
-    pub pending : All (Pending c e) w.pending
+    pub received : AllByRecursion (Received c e) w.received
+    pub checked : AllByRecursion (Checked c e) w.checked
+    pub pending : AllByRecursion (Pending c e) w.pending
     pub job : IfSome w.job (Out c e)
     pub once : (i : ℕ) → in_play i w ≤ flag (get_or flags i false)
 
@@ -78,7 +78,7 @@ module _ (limits : Limits) (m : Meaning) (a : Assignment) (H : List ℕ → List
     pub shards : List Indexed
     pub many : minimum_of c ≤ length shards
     pub distinct : Distinct (map index_of shards)
-    pub each : All (Checked c e) shards
+    pub each : AllByRecursion (Checked c e) shards
     pub opens : opened_for m limits.blob c shards ≡ Ok blob
     pub reading : Reading
     pub fits : fitted_for m limits.blob c blob ≡ Ok reading
@@ -251,16 +251,16 @@ module _ (limits : Limits) (m : Meaning) (a : Assignment) (H : List ℕ → List
   }
 
   -- a pending shard that is good counts as checked
-  good_pending : (c : List ℕ) (e : ℕ) (ps : List Sent) → All (Pending c e) ps → All (Checked c e) (filter (good_for m limits.blob c) (map shard_of ps))
+  good_pending : (c : List ℕ) (e : ℕ) (ps : List Sent) → AllByRecursion (Pending c e) ps → AllByRecursion (Checked c e) (filter (good_for m limits.blob c) (map shard_of ps))
   good_pending c e [] all = tt
   good_pending c e (p ∷ ps) all =
       let rest = filter (good_for m limits.blob c) (map shard_of ps) in
-      cond_both (good_for m limits.blob c p.shard) (p.shard ∷ rest) rest (All (Checked c e))
+      cond_both (good_for m limits.blob c p.shard) (p.shard ∷ rest) rest (AllByRecursion (Checked c e))
       (λ t.
       (record { good = t; below = index_below p.sender (a.keys e) p.shard.index all.0.placed; sender = p.sender; handed = all.0.handed }, good_pending c e ps all.1))
       (λ _. good_pending c e ps all.1)
 
-  pub passing_checked : (c : List ℕ) (e : ℕ) (j : Job) → Out c e j → All (Checked c e) (passing m limits.blob c j)
+  pub passing_checked : (c : List ℕ) (e : ℕ) (j : Job) → Out c e j → AllByRecursion (Checked c e) (passing m limits.blob c j)
   passing_checked c e j out =
       All-append (Checked c e) j.checked (filter (good_for m limits.blob c) (map shard_of j.pending)) out.checked (good_pending c e j.pending out.pending)
 

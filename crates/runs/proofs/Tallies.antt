@@ -1,7 +1,7 @@
 -- How often an index stands among shards, and what changes leave of it.
 use Rattle.std.proofs.Common.{◌≡◌, ℕ, zero, suc, ◌+◌, ◌<◌, ◌≤◌, Bool, true, false, cond, eqb, List, [], ◌∷◌, ◌++◌, map, length, get_or, take, drop, set, filter, Ordering, refl, ap, ⊎_elim, arith}
 use Rattle.std.proofs.lemmas.Bool.{cases_eq, cond_both, eq-eqb, ne_eqb}
-use Rattle.std.specs.List.{AllByRecursion as All}
+use Rattle.std.specs.List.{AllByRecursion}
 use Rattle.table.proofs.Orders.{by_order}
 use Rattle.table.specs.Table.{put}
 use Rattle.model.specs.Promises.{Distinct}
@@ -45,7 +45,7 @@ module _ {X : Type 0} (index : X → ℕ) where
       by_order (order (key x) (key e)) (λ l. simp l (omega arith)) (λ q. simp q (omega arith)) (λ m. simp m (omega arith))
 
   -- an index that is tallied nowhere is that of none
-  pub none_there : (i : ℕ) (xs : List X) → tally i xs ≡ 0 → All (λ j. i ≡ j → ⊥) (map index xs)
+  pub none_there : (i : ℕ) (xs : List X) → tally i xs ≡ 0 → AllByRecursion (λ j. i ≡ j → ⊥) (map index xs)
   none_there i [] h = tt
   none_there i (x ∷ xs) h =
       ((λ same. let z : hit i (index x) ≡ 1 = simp (eq-eqb i (index x) same) in omega arith), none_there i xs (omega arith))

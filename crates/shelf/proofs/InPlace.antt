@@ -1,7 +1,7 @@
 -- One record changed in its slot: it is the only one that changes.
 use Rattle.std.proofs.Common.{◌≡◌, ℕ, zero, suc, ◌+◌, ◌*◌, ◌<◌, ◌≤◌, Bool, true, false, cond, List, [], ◌∷◌, map, length, get_or, take, drop, set, None, sym, refl, ap, ◌∙◌, subst, arith, length-set, length-take, get_or-set_other, get_or-take, get_or-set_same}
 use Rattle.std.proofs.ByRecursion.{All-get_or, All-set, All-take, All-weaker}
-use Rattle.std.specs.List.{AllByRecursion as All}
+use Rattle.std.specs.List.{AllByRecursion}
 use Rattle.places.specs.Places.{held}
 use Rattle.model.specs.Meaning.{minimum_of}
 use Rattle.model.specs.Promises.{Distinct}
@@ -20,7 +20,7 @@ use Rattle.shelf.specs.Whole.{Fine, OtherBlobs, Whole, with_records}
 use Rattle.shelf.specs.declared.shelf.Filed.{Filed}
 use Rattle.shelf.specs.declared.shelf.Shelf.{Shelf}
 
-slot_at : (P : ℕ → Type 0) (xs : List Filed) (i : ℕ) → i < length xs → All P (map slot_of xs) → P (get_or xs i nothing).slot
+slot_at : (P : ℕ → Type 0) (xs : List Filed) (i : ℕ) → i < length xs → AllByRecursion P (map slot_of xs) → P (get_or xs i nothing).slot
 slot_at P [] i h all = absurd (omega arith)
 slot_at P (x ∷ xs) zero h all = all.0
 slot_at P (x ∷ xs) (suc i) h all = slot_at P xs i (omega arith) all.1
@@ -73,13 +73,13 @@ module _ (width size slot : ℕ) (shards shards' blobs blobs' : List ℕ) (apart
     this_entry : (f : Filed) → f.slot ≡ slot → record_in new (set records slot r) f ≡ view new f.commitment.bytes slot r
     this_entry f is = ap (λ n. view new f.commitment.bytes n (get_or (set records slot r) n blank)) is ∙ ap (view new f.commitment.bytes slot) (get_or-set_same records slot r blank low)
 
-    all_others : (xs : List Filed) → All (λ y. slot ≡ y → ⊥) (map slot_of xs) → All fine_in xs → map (record_in new (set records slot r)) xs ≡ map (record_in at records) xs
+    all_others : (xs : List Filed) → AllByRecursion (λ y. slot ≡ y → ⊥) (map slot_of xs) → AllByRecursion fine_in xs → map (record_in new (set records slot r)) xs ≡ map (record_in at records) xs
     all_others [] d all = refl
     all_others (x ∷ xs) d all =
         let a = other_entry x (λ e. d.0 (sym e)) all.0 in let b = all_others xs d.1 all.1 in cc
 
     -- in a list of entries with slots of their own, only the one at place i has this slot
-    pub only_one : (xs : List Filed) (i : ℕ) → i < length xs → (get_or xs i nothing).slot ≡ slot → Distinct (map slot_of xs) → All fine_in xs →
+    pub only_one : (xs : List Filed) (i : ℕ) → i < length xs → (get_or xs i nothing).slot ≡ slot → Distinct (map slot_of xs) → AllByRecursion fine_in xs →
         map (record_in new (set records slot r)) xs ≡ set (map (record_in at records) xs) i (view new (get_or xs i nothing).commitment.bytes slot r)
     only_one [] i h is d all = absurd (omega arith)
     only_one (x ∷ xs) zero h is d all =

@@ -2,7 +2,7 @@
 use Rattle.std.proofs.Common.{◌≡◌, ℕ, zero, suc, ◌<◌, ◌≤◌, List, [], ◌∷◌, length, get_or, Some, None, Option, Ordering, Less, Equal, Greater, sym, refl, ap, ◌∙◌, subst, le_of_suc-le-suc, not-suc-le-zero, arith}
 use Rattle.std.proofs.ByRecursion.{All-get_or, All-weaker}
 use Rattle.std.specs.Option.{option_map}
-use Rattle.std.specs.List.{AllByRecursion as All}
+use Rattle.std.specs.List.{AllByRecursion}
 use Rattle.table.specs.Laws.{Ascends, look, Differ, Keeps, Laws, FoundExactly}
 use Rattle.table.specs.Table.{pick, put, without, changed}
 use Rattle.table.proofs.Orders.{by_order, Lawful, itself, above, below}
@@ -33,7 +33,7 @@ module _ {K E : Type 0} (order : K → K → Ordering) (key : E → K) (laws : L
       (λ q. let n = simp q at h in cc)
       (λ m. simp (m, itself order laws (key e)))
 
-  all_put : (P : E → Type 0) (e : E) (xs : List E) → P e → All P xs → All P (put order key e xs)
+  all_put : (P : E → Type 0) (e : E) (xs : List E) → P e → AllByRecursion P xs → AllByRecursion P (put order key e xs)
   all_put P e [] h all = (h, tt)
   all_put P e (x ∷ xs) h all =
       by_order (order (key x) (key e))
@@ -41,7 +41,7 @@ module _ {K E : Type 0} (order : K → K → Ordering) (key : E → K) (laws : L
       (λ q. simp q all)
       (λ m. simp m (h, all))
 
-  all_without : (P : E → Type 0) (k : K) (xs : List E) → All P xs → All P (without order key k xs)
+  all_without : (P : E → Type 0) (k : K) (xs : List E) → AllByRecursion P xs → AllByRecursion P (without order key k xs)
   all_without P k [] all = tt
   all_without P k (x ∷ xs) all =
       by_order (order (key x) k)
@@ -50,12 +50,12 @@ module _ {K E : Type 0} (order : K → K → Ordering) (key : E → K) (laws : L
       (λ m. simp m all)
 
   -- nothing is found below the first key
-  none_below : (k : K) (xs : List E) → All (λ y. order k (key y) ≡ Less) xs → look order key k xs ≡ None
+  none_below : (k : K) (xs : List E) → AllByRecursion (λ y. order k (key y) ≡ Less) xs → look order key k xs ≡ None
   none_below k [] all = refl
   none_below k (x ∷ xs) all = simp (above order laws k (key x) all.0)
 
   -- what is below x is below all that x is below
-  all_below : (k : K) (x : E) (xs : List E) → order k (key x) ≡ Less → All (λ y. order (key x) (key y) ≡ Less) xs → All (λ y. order k (key y) ≡ Less) xs
+  all_below : (k : K) (x : E) (xs : List E) → order k (key x) ≡ Less → AllByRecursion (λ y. order (key x) (key y) ≡ Less) xs → AllByRecursion (λ y. order k (key y) ≡ Less) xs
   all_below k x xs h all = All-weaker _ (λ y. order k (key y) ≡ Less) (λ y l. laws.ascends k (key x) (key y) h l) xs all
 
   put_others : (e : E) (k : K) (xs : List E) → Differ order key (key e) k → look order key k (put order key e xs) ≡ look order key k xs
@@ -112,7 +112,7 @@ module _ {K E : Type 0} (order : K → K → Ordering) (key : E → K) (laws : L
       (λ m. simp m up)
 
   module _ (f : E → E) (keeps : Keeps order key f) where
-    all_changed : (k : K) (a : K) (xs : List E) → All (λ y. order a (key y) ≡ Less) xs → All (λ y. order a (key y) ≡ Less) (changed order key f k xs)
+    all_changed : (k : K) (a : K) (xs : List E) → AllByRecursion (λ y. order a (key y) ≡ Less) xs → AllByRecursion (λ y. order a (key y) ≡ Less) (changed order key f k xs)
     all_changed k a [] all = tt
     all_changed k a (x ∷ xs) all =
         by_order (order (key x) k)

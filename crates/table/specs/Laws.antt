@@ -3,14 +3,14 @@ use Rattle.std.specs.Prelude.{◌≡◌, ℕ, ◌<◌, List, [], ◌∷◌, leng
 use Rattle.std.specs.declared.cmp.Ordering.TheVariants.{Less, Equal}
 use Rattle.std.specs.declared.cmp.Ordering.{Ordering}
 use Rattle.std.specs.Option.{option_map}
-use Rattle.std.specs.List.{AllByRecursion as All}
+use Rattle.std.specs.List.{AllByRecursion}
 use Rattle.table.specs.Table.{pick, found, put, without, changed}
 
 module _ {K E : Type 0} (order : K → K → Ordering) (key : E → K) where
   -- each key is below those after it
   abbrev pub Ascends : List E → Type 0
   Ascends [] = Unit {0}
-  Ascends (x ∷ xs) = All (λ y. order (key x) (key y) ≡ Less) xs × Ascends xs
+  Ascends (x ∷ xs) = AllByRecursion (λ y. order (key x) (key y) ≡ Less) xs × Ascends xs
 
   -- the entry of k
   abbrev pub look : K → List E → Option E
