@@ -1,4 +1,6 @@
 // What a hash means: every byte string has one digest of 32 bytes.
+#![tactic(auto)]
+
 ghost use Rattle.std.specs.Prelude.{ℕ, ◌<◌, List, ◌++◌, ◌≡◌, get_or, length};
 
 pub trait Hash {

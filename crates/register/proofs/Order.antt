@@ -1,5 +1,5 @@
 -- The order on byte strings at place i: at an end, and at a pair. Assumes nothing.
-use Rattle.std.proofs.Common.{◌≡◌, ℕ, suc, ◌+◌, ◌<◌, ◌≤◌, true, false, cond, ltb, List, [], ◌∷◌, length, get_or, drop, Less, Equal, Greater, sym, refl, ◌∙◌, add-one, arith, drop_of_length-le, drop-cons, le-ltb, lt-ltb}
+use Rattle.std.proofs.Common.{◌≡◌, ℕ, ◌+◌, ◌<◌, ◌≤◌, cond, ltb, List, length, get_or, drop, Less, Equal, Greater, sym, ◌∙◌, add-one, arith, drop_of_length-le, drop-cons, le-ltb, lt-ltb}
 use Rattle.register.specs.Order.{order}
 
 module _ (a b : List ℕ) (i : ℕ) where

@@ -1,5 +1,5 @@
 -- A commitment: block digest, coding root and context digest, 32 bytes each, then minimum and extra, two bytes each. Assumes nothing.
-use Rattle.std.specs.Prelude.{ℕ, ◌+◌, Bool, true, false, cond, List, length, take, drop, Ok, Err, Result, ◌==◌}
+use Rattle.std.specs.Prelude.{ℕ, ◌+◌, cond, List, length, take, drop, Ok, Err, Result, ◌==◌}
 use Rattle.register.specs.declared.commitment.Commitment.{Commitment}
 use Rattle.register.specs.declared.commitment.Config.{Config}
 use Rattle.register.specs.declared.commitment.Malformed.{Malformed}

@@ -1,5 +1,5 @@
 -- Numbers written in bytes, high byte first. Assumes nothing.
-use Rattle.std.specs.Prelude.{ℕ, zero, suc, ◌+◌, ◌*◌, Bool, true, false, cond, List, length, Some, None, Option, nat_le, slice_index}
+use Rattle.std.specs.Prelude.{ℕ, zero, suc, ◌+◌, ◌*◌, cond, List, length, Some, None, Option, nat_le, slice_index}
 
 -- what the n bytes at i write
 abbrev pub word : List ℕ → ℕ → ℕ → ℕ

@@ -1,10 +1,10 @@
 -- Tables whose entries are carried over to others, and what holds of every entry.
-use Rattle.std.proofs.Common.{◌≡◌, ℕ, suc, ◌+◌, ◌≤◌, List, [], ◌∷◌, map, length, Some, None, Ok, Err, Option, Result, Ordering, Less, Equal, Greater, sym, refl, ap, ◌∙◌, arith}
+use Rattle.std.proofs.Common.{◌≡◌, ℕ, ◌+◌, ◌≤◌, List, [], ◌∷◌, map, length, Ok, Err, Result, Ordering, refl, ap, ◌∙◌, arith}
 use Rattle.std.specs.Option.{option_map}
 use Rattle.std.specs.List.{AllByRecursion}
 use Rattle.table.proofs.Orders.{by_order}
 use Rattle.table.specs.Laws.{look}
-use Rattle.table.specs.Table.{changed, found, later, pick, put, without}
+use Rattle.table.specs.Table.{found, later, put, without}
 
 module _ {K E : Type 0} (order : K → K → Ordering) (key : E → K) where
   pub all_put : (P : E → Type 0) (e : E) (xs : List E) → P e → AllByRecursion P xs → AllByRecursion P (put order key e xs)

@@ -1,4 +1,6 @@
 // An ordered table over a lent slice: its entries are the first `count` of the slice, in ascending order of their keys.
+#![tactic(auto)]
+
 mod key;
 
 ghost use Rattle.std.specs.Prelude.{◌≡◌, ◌+◌, ◌-◌, ◌<◌, ◌≤◌, min, length, take, drop, is_ok, IfOk, if◌then◌else◌, Some, None, MatchResult, slice_index_or};
@@ -26,8 +28,8 @@ pub enum Refusal {
 // The place of `key` among all entries of the slice.
 fn scan<E: Entry>(entries: &[E], key: &E::Key) -> Result<usize, usize>
     ensures within { MatchResult result (λ i. i < length entries.now) (λ i. i ≤ length entries.now) }
-    ensures answer { result ≡ found E.Key.Ordered.order named key.now entries.now }
-    ensures entry { MatchResult result (λ i. (d : E) → look E.Key.Ordered.order named key.now entries.now ≡ Some (slice_index_or entries.now i d)) (λ _. look E.Key.Ordered.order named key.now entries.now ≡ None) }
+    ensures answer { result ≡ found E.Key.Ordered.order E.named key.now entries.now }
+    ensures entry { MatchResult result (λ i. (d : E) → look E.Key.Ordered.order E.named key.now entries.now ≡ Some (slice_index_or entries.now i d)) (λ _. look E.Key.Ordered.order E.named key.now entries.now ≡ None) }
 {
     for (i, entry) in entries.iter().enumerate() {
         match entry.key().compare(key) {
@@ -50,15 +52,15 @@ fn held<E>(entries: &[E], count: usize) -> &[E]
 // The place of `key` in the table, or the place where it would go. A count above the length means the whole slice.
 pub fn find<E: Entry>(entries: &[E], count: usize, key: &E::Key) -> Result<usize, usize>
     ensures within { MatchResult result (λ i. (i < count) × (i < length entries.now)) (λ i. (i ≤ count) × (i ≤ length entries.now)) }
-    ensures answer { result ≡ found E.Key.Ordered.order named key.now (take count entries.now) }
-    ensures entry { MatchResult result (λ i. (d : E) → look E.Key.Ordered.order named key.now (take count entries.now) ≡ Some (slice_index_or (take count entries.now) i d)) (λ _. look E.Key.Ordered.order named key.now (take count entries.now) ≡ None) }
+    ensures answer { result ≡ found E.Key.Ordered.order E.named key.now (take count entries.now) }
+    ensures entry { MatchResult result (λ i. (d : E) → look E.Key.Ordered.order E.named key.now (take count entries.now) ≡ Some (slice_index_or (take count entries.now) i d)) (λ _. look E.Key.Ordered.order E.named key.now (take count entries.now) ≡ None) }
 {
     scan(held(entries, count), key)
 }
 
 // The entry of `key`.
 pub fn get<'a, E: Entry>(entries: &'a [E], count: usize, key: &E::Key) -> Option<&'a E>
-    ensures { option_map (λ x. x.now) result ≡ look E.Key.Ordered.order named key.now (take count entries.now) }
+    ensures { option_map (λ x. x.now) result ≡ look E.Key.Ordered.order E.named key.now (take count entries.now) }
 {
     let table = held(entries, count);
     match scan(table, key) {
@@ -76,10 +78,10 @@ pub fn first<E: Entry>(entries: &[E], count: usize) -> Option<&E>
 
 // Puts `entry` in its place, and gives that place: the table then has one entry more.
 pub fn insert<E: Entry + Drop>(entries: &mut [E], count: usize, entry: E) -> Result<usize, Refusal>
-    ensures answer { result ≡ inserts count (length entries.old) (found E.Key.Ordered.order named (named entry) (take count entries.old)) }
+    ensures answer { result ≡ inserts count (length entries.old) (found E.Key.Ordered.order E.named (E.named entry) (take count entries.old)) }
     ensures within { IfOk result (λ i. (i ≤ count) × (count < length entries.old)) }
-    ensures table { MatchResult result (λ _. take (count + 1) entries.new ≡ put E.Key.Ordered.order named entry (take count entries.old)) (λ _. entries.new ≡ entries.old) }
-    ensures ascends { Ascends E.Key.Ordered.order named (take count entries.old) → Ascends E.Key.Ordered.order named (take (if is_ok result then count + 1 else count) entries.new) }
+    ensures table { MatchResult result (λ _. take (count + 1) entries.new ≡ put E.Key.Ordered.order E.named entry (take count entries.old)) (λ _. entries.new ≡ entries.old) }
+    ensures ascends { Ascends E.Key.Ordered.order E.named (take count entries.old) → Ascends E.Key.Ordered.order E.named (take (if is_ok result then count + 1 else count) entries.new) }
     ensures behind { drop (count + 1) entries.new ≡ drop (count + 1) entries.old }
 {
     if count > entries.len() {
@@ -98,10 +100,10 @@ pub fn insert<E: Entry + Drop>(entries: &mut [E], count: usize, entry: E) -> Res
 
 // Takes the entry with `key` out, and gives the place that it had: the table then has one entry fewer, and that entry stands right behind it.
 pub fn remove<E: Entry>(entries: &mut [E], count: usize, key: &E::Key) -> Result<usize, Refusal>
-    ensures answer { result ≡ removes count (length entries.old) (found E.Key.Ordered.order named key.now (take count entries.old)) }
+    ensures answer { result ≡ removes count (length entries.old) (found E.Key.Ordered.order E.named key.now (take count entries.old)) }
     ensures within { IfOk result (λ i. (i < count) × (count ≤ length entries.old)) }
-    ensures table { MatchResult result (λ _. take (count - 1) entries.new ≡ without E.Key.Ordered.order named key.now (take count entries.old)) (λ _. entries.new ≡ entries.old) }
-    ensures ascends { Ascends E.Key.Ordered.order named (take count entries.old) → Ascends E.Key.Ordered.order named (take (if is_ok result then count - 1 else count) entries.new) }
+    ensures table { MatchResult result (λ _. take (count - 1) entries.new ≡ without E.Key.Ordered.order E.named key.now (take count entries.old)) (λ _. entries.new ≡ entries.old) }
+    ensures ascends { Ascends E.Key.Ordered.order E.named (take count entries.old) → Ascends E.Key.Ordered.order E.named (take (if is_ok result then count - 1 else count) entries.new) }
     ensures last { IfOk result (λ i. (d : E) → slice_index_or entries.new (count - 1) d ≡ slice_index_or entries.old i d) }
     ensures behind { drop count entries.new ≡ drop count entries.old }
 {
@@ -119,7 +121,7 @@ pub fn remove<E: Entry>(entries: &mut [E], count: usize, key: &E::Key) -> Result
 
 // What holds of every table, whatever its entries.
 pub fn laws_stand<E: Entry>() -> u8
-    ensures { Laws E.Key.Ordered.order named }
+    ensures { Laws E.Key.Ordered.order E.named }
 {
     0
 }
@@ -128,7 +130,7 @@ pub fn laws_stand<E: Entry>() -> u8
 pub fn keys_stand<E: Entry>() -> u8
 where
     E::Key: Exact,
-    ensures { FoundExactly E.Key.Ordered.order named }
+    ensures { FoundExactly E.Key.Ordered.order E.named }
 {
     0
 }

@@ -18,7 +18,7 @@ returns-in-Err-2 g c =
     let lt : n < length xs = omega arith in
     let was = c.in-Err.ensures.answer in
     let is : Err i ≡ found order named (named e) (take n xs) = cc in
-    let after = c.rotate-right.ensures.after in
+    let after = c.rotate_right.ensures.after in
     let laws = table_laws order named (record { reverses = g.met.E.Key.Ordered.reverses; ascends = g.met.E.Key.Ordered.ascends; ties = g.met.E.Key.Ordered.ties }) in
     let table = take_turned_in xs i n e le lt _ after ∙ sym (put-at order named e (take n xs) i is) in
     record {

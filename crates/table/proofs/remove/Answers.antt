@@ -1,4 +1,4 @@
-use Rattle.std.proofs.Common.{◌≡◌, ◌<◌, ◌≤◌, length, get_or, take, Ok, sym, ◌∙◌, subst, arith, rules}
+use Rattle.std.proofs.Common.{◌≡◌, ◌<◌, ◌≤◌, length, take, Ok, sym, ◌∙◌, subst, arith, rules}
 use Rattle.table.specs.Laws.{Ascends}
 use Rattle.table.specs.Table.{found}
 use Rattle.table.proofs.Lawful.{table_laws}
@@ -16,7 +16,7 @@ returns-in-Ok g c =
     let lt : i < n = c.in-Ok.ensures.within.0 in
     let le : n ≤ length xs = omega arith in
     let is : Ok i ≡ found order named c.args.key.now (take n xs) = c.in-Ok.ensures.answer in
-    let after = c.rotate-left.ensures.after in
+    let after = c.rotate_left.ensures.after in
     let x = some_of xs (omega arith) in
     let laws = table_laws order named (record { reverses = g.met.E.Key.Ordered.reverses; ascends = g.met.E.Key.Ordered.ascends; ties = g.met.E.Key.Ordered.ties }) in
     let table = take_turned_out xs i n lt le x _ after ∙ sym (without_at order named c.args.key.now (take n xs) i is) in
