@@ -1,4 +1,6 @@
 // Runs the digests of data/digests.txt against the hashes, and names the first that differs.
+#![tactic(auto)]
+
 mod cases;
 mod messages;
 
@@ -40,7 +42,7 @@ fn message_of(heap: Global, message: &Message<'_>) -> Result<Vec<u8>, AllocError
 
 // Whether the hash of the two parts is `expected`.
 fn agrees<D: Hash>(hash: &D, first: &[u8], second: &[u8], expected: &[u8; 32]) -> bool
-    ensures { Decides result (digest hash.now (first.now ++ second.now) ≡ expected.now) }
+    ensures { Decides result (D.digest hash.now (first.now ++ second.now) ≡ expected.now) }
 {
     hash.hash_parts(first, second) == *expected
 }

@@ -6,9 +6,9 @@ use Rattle.vectors.proofs.messages.pattern_of.Goals as goal
 pub loop-i-preserved : goal.loop-i-preserved
 loop-i-preserved c =
     let more = map-range_with_len_more (pattern_byte c.args.n) 0 c.loop-i.i c.loop-i.i (zero-add c.loop-i.i) in
-    let after = c.in-ok-push.ensures.items in
+    let after = c.in_ok-push.ensures.items in
     let before = c.loop-i.invariant in
-    let byte = c.pattern-byte.ensures in
+    let byte = c.pattern_byte.ensures in
     cc
 
 pub returns : goal.returns

@@ -10,7 +10,7 @@ pub loop-k-preserved : goal.loop-k-preserved
 unfolding repeated
 loop-k-preserved c =
     let text = c.args.text.now in
-    let after = c.in-ok-extend-from-slice.ensures.items in
+    let after = c.in_ok-extend_from_slice.ensures.items in
     let before = c.loop-k.invariant in
     simp add-one (cc)
 
