@@ -1,4 +1,6 @@
 // Memory in places of one size: byte strings lie at the front of their places and never move.
+#![tactic(auto)]
+
 ghost use Rattle.std.specs.Prelude.{◌≡◌, ℕ, ◌+◌, ◌*◌, ◌≤◌, length, ◌≢◌};
 ghost use Rattle.places.specs.Places.{held};
 

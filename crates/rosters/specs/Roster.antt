@@ -1,5 +1,5 @@
 -- What a roster tells of an epoch: that it is unknown, or its keys; and the node's own index.
-use Rattle.std.specs.Prelude.{◌≡◌, ℕ, ◌≤◌, Bool, T, List, length, Some, None, Option}
+use Rattle.std.specs.Prelude.{◌≡◌, ℕ, ◌≤◌, T, List, length, Some, None, Option}
 use Rattle.std.specs.Borrow.{Bor}
 use Rattle.std.specs.Option.{option_map}
 use Rattle.register.specs.declared.key.Key.{Key}

@@ -9,7 +9,7 @@ use Rattle.std.specs.Option.{option_map}
 use Rattle.table.specs.Laws as table
 use Rattle.table.proofs.Lawful.{table_laws}
 use Rattle.table.proofs.Orders.{Lawful}
-use Rattle.rosters.specs.Enrolled.{Roll, keys_of, roll_of}
+use Rattle.rosters.specs.Enrolled.{keys_of, roll_of}
 use Rattle.rosters.specs.Epochs.{Laws, by_number, filed_under, keys_told, new_row, own_told, row, stamp, stamp_of, switched, with_known}
 use Rattle.rosters.specs.Roster.{Fair}
 use Rattle.rosters.specs.declared.epochs.Row.{Row}

@@ -4,7 +4,7 @@ use Rattle.std.specs.List.{range_with_len}
 use Rattle.std.proofs.lemmas.List.{get_or_append_left, get_or_at, length_push}
 use Rattle.std.proofs.lemmas.List.FromFn.{get_or-map-range_with_len, length-map-range_with_len}
 use Rattle.std.proofs.lemmas.Bool.{cases_lt}
-use Rattle.sha256.specs.Fips180.{K, add, next, round, rounds, schedule}
+use Rattle.sha256.specs.Fips180.{K, next, round, rounds, schedule}
 use Rattle.sha256.specs.Window.{rounds_over, slid, slide}
 
 pub first : (t : ℕ) (w s : List ℕ) {y : List ℕ} → y ≡ round (get_or K t 0) (get_or w 0 0) s → y ≡ rounds_over 1 t w s

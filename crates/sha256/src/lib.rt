@@ -1,4 +1,6 @@
 // SHA-256, proved equal to the definition of FIPS 180-4 in specs/.
+#![tactic(auto)]
+
 mod compression;
 mod message;
 mod words;

@@ -4,7 +4,7 @@ use Rattle.examine.proofs.file.pieces.Goals as goal
 
 pub loop-arrival-preserved : goal.loop-arrival-preserved
 loop-arrival-preserved c =
-    pieces_more (vec_items c.loop-arrival.all) (vec_items c.push.new.self) c.args.arrivals.now c.loop-arrival.arrival-index c.arrival-item.result c.piece.result c.loop-arrival-test.true c.loop-arrival.invariant c.in-ok-push.ensures.items c.piece.ensures c.arrival-item.is
+    pieces_more (vec_items c.loop-arrival.all) (vec_items c.push.new.self) c.args.arrivals.now c.loop-arrival.arrival-index c.arrival-item.result c.piece.result c.loop-arrival-test.true c.loop-arrival.invariant c.in_ok-push.ensures.items c.piece.ensures c.arrival-item.is
 
 pub returns : goal.returns
 returns c =

@@ -6,6 +6,6 @@ use Rattle.sha256.proofs.Sha256Hash.hash_parts.Goals as goal
 
 pub returns : goal.returns
 returns c =
-    let padding = c.padding-of-padding in
-    c.bytes-of.ensures ∙ ap bytes (simp sub-zero at c.last-hash.ensures)
+    let padding = c.padding_of-padding in
+    c.bytes_of.ensures ∙ ap bytes (simp sub-zero at c.last_hash.ensures)
     ∙ sha256_is c.args.first.now c.args.second.now (take padding.result.len padding.result.bytes) padding.ensures.bytes

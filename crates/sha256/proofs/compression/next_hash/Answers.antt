@@ -13,11 +13,11 @@ pub loop-i-preserved : goal.loop-i-preserved
 loop-i-preserved c =
     let long : length c.args.m ≡ 16 = search rules in
     let w-is = c.loop-i.invariant.1 c.loop-i-test.true in (
-      rounds_turn c.loop-i.i c.args.m c.args.h long c.loop-i-test.true c.loop-i.invariant.0 w-is c.sixteen-rounds-after.ensures,
+      rounds_turn c.loop-i.i c.args.m c.args.h long c.loop-i-test.true c.loop-i.invariant.0 w-is c.sixteen_rounds-after.ensures,
       λ h.
           elim c.if-i-lt3.branch [
             | then-i-lt3 w ↦
-                let turn = slide_turn c.loop-i.i c.args.m w-is w.slide-sixteen-following.ensures in cc
+                let turn = slide_turn c.loop-i.i c.args.m w-is w.slide_sixteen-following.ensures in cc
             | else-i-lt3 w ↦ absurd (omega arith)
           ],
     )

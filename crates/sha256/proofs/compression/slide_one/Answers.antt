@@ -4,4 +4,4 @@ use Rattle.sha256.proofs.compression.slide_one.Goals as goal
 
 pub returns : goal.returns
 unfolding slide next
-returns c = simp (c.small-sigma1.ensures, c.small-sigma0.ensures)
+returns c = simp (c.small_sigma1.ensures, c.small_sigma0.ensures)

@@ -9,5 +9,5 @@ returns c =
     record {
       len = sym (length-padding c.args.n);
       fits = omega arith;
-      bytes = ap (take (zeros c.args.n + 9)) c.put.ensures ∙ padding_is c.args.n (field_is c.args.n c.to-be-bytes.ensures);
+      bytes = ap (take (zeros c.args.n + 9)) c.put.ensures ∙ padding_is c.args.n (field_is c.args.n c.to_be_bytes.ensures);
     }

@@ -3,4 +3,4 @@ use Rattle.sha256.proofs.message.word_at.Goals as goal
 
 pub returns : goal.returns
 unfolding word
-returns c = c.from-be-bytes.ensures
+returns c = c.from_be_bytes.ensures

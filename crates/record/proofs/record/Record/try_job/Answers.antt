@@ -14,4 +14,4 @@ returns-then-self c =
 
 pub returns : goal.returns
 returns c =
-    record { job = λ width at k slot s. simp c.saturating-sub-self.ensures (job_starts at k slot c.args.minimum width c.args.self.now s c.if-self.false c.if-self-2.false c.if-self-minimum.false); sound = λ width s. simp c.saturating-sub-self.ensures (started-sound c.args.minimum width c.args.self.now s c.if-self-minimum.false); filled = λ f j. omega (arith, c.if-self-minimum.false, c.saturating-sub-self.ensures) }
+    record { job = λ width at k slot s. simp c.saturating_sub-self.ensures (job_starts at k slot c.args.minimum width c.args.self.now s c.if-self.false c.if-self-2.false c.if-self-minimum.false); sound = λ width s. simp c.saturating_sub-self.ensures (started-sound c.args.minimum width c.args.self.now s c.if-self-minimum.false); filled = λ f j. omega (arith, c.if-self-minimum.false, c.saturating_sub-self.ensures) }

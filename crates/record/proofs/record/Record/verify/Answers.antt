@@ -25,8 +25,8 @@ keep-stored-requires c =
     let less = contributions_less c.args.self.now.contributed c.args.shard.index (omega (arith, c.requires.fits.within, c.requires.fits.sound.flags)) c.requires.fits.fresh in
     record { within = c.requires.fits.within; fits = c.requires.fits.fits; narrow = c.requires.placed.narrow; low = c.requires.placed.low; there = c.requires.placed.there; room = omega (arith, less, c.requires.fits.sound.received, c.requires.fits.sound.flags) }
 
-pub join-checked-requires : goal.join-checked-requires
-join-checked-requires c =
+pub join_checked-requires : goal.join_checked-requires
+join_checked-requires c =
     let less = contributions_less c.args.self.now.contributed c.args.shard.index (omega (arith, c.requires.fits.within, c.requires.fits.sound.flags)) c.requires.fits.fresh in
     let few : c.args.self.now.checked_count < 64 = omega (arith, less, c.requires.fits.sound.used, c.requires.fits.sound.flags) in
     subst (λ (x : Record). x.checked_count < 64) (sym c.keep-stored.ensures.stays) few
@@ -38,11 +38,11 @@ returns c =
     let o = c.requires.fits in
     let kept = c.keep-stored.ensures.stays in
     let is = c.keep-stored.ensures.stored in
-    let joins = c.join-checked.ensures ∙ ap (λ (x : Record). with_checked (set x.checked x.checked_count c.keep-stored.result) (x.checked_count + 1) (with_verified x)) kept in
+    let joins = c.join_checked.ensures ∙ ap (λ (x : Record). with_checked (set x.checked x.checked_count c.keep-stored.result) (x.checked_count + 1) (with_verified x)) kept in
     let whole = joins ∙ ap (λ (s : Stored). with_checked (set r.checked r.checked_count s) (r.checked_count + 1) (with_verified (with_received k.received k.received_count (set r.contributed c.args.shard.index true) r))) is in
     let table = subst (λ (s : Stored). take k.received_count k.received ≡ put by_index index_named s (take r.received_count r.received)) is c.keep-stored.ensures.table in
     let long : length k.received ≡ 64 = c.keep-stored.ensures.long ∙ o.sound.received_room in
-    let view-is : (size : ℕ) (blobs filed : List ℕ) → view (memory c.args.width c.keep-stored.new.shards size blobs) filed c.args.slot c.join-checked.new.self ≡ _ = λ size blobs filed. ap (view (memory c.args.width c.keep-stored.new.shards size blobs) filed c.args.slot) whole ∙ checks-view c.args.width c.args.slot c.args.shard.index c.args.shard.bytes.now c.args.shards.now c.keep-stored.new.shards size blobs r o c.keep-stored.ensures.written c.keep-stored.ensures.others k.received k.received_count c.if-self.false table filed in
+    let view-is : (size : ℕ) (blobs filed : List ℕ) → view (memory c.args.width c.keep-stored.new.shards size blobs) filed c.args.slot c.join_checked.new.self ≡ _ = λ size blobs filed. ap (view (memory c.args.width c.keep-stored.new.shards size blobs) filed c.args.slot) whole ∙ checks-view c.args.width c.args.slot c.args.shard.index c.args.shard.bytes.now c.args.shards.now c.keep-stored.new.shards size blobs r o c.keep-stored.ensures.written c.keep-stored.ensures.others k.received k.received_count c.if-self.false table filed in
     record {
       verifies = λ size blobs filed. simp c.if-self.false (view-is size blobs filed);
       sound = subst (Sound c.args.width) (sym whole) (checks-sound c.args.width c.args.slot c.args.shard.index c.args.shard.bytes.now c.args.shards.now c.keep-stored.new.shards 0 c.args.shards.now r o c.keep-stored.ensures.written c.keep-stored.ensures.others k.received k.received_count c.if-self.false table long c.keep-stored.ensures.count);

@@ -15,8 +15,8 @@ keep-stored-requires c =
     let less = contributions_less c.args.self.now.contributed c.args.shard.index (omega (arith, c.requires.fits.within, c.requires.fits.sound.flags)) c.requires.fits.fresh in
     record { within = c.requires.fits.within; fits = c.requires.fits.fits; narrow = c.requires.placed.narrow; low = c.requires.placed.low; there = c.requires.placed.there; room = omega (arith, less, c.requires.fits.sound.received, c.requires.fits.sound.flags) }
 
-pub join-pending-requires : goal.join-pending-requires
-join-pending-requires c =
+pub join_pending-requires : goal.join_pending-requires
+join_pending-requires c =
     let less = contributions_less c.args.self.now.contributed c.args.shard.index (omega (arith, c.requires.fits.within, c.requires.fits.sound.flags)) c.requires.fits.fresh in
     let s = c.requires.fits.sound in
     let kept = c.keep-stored.ensures.stays in
@@ -27,17 +27,17 @@ pub returns : goal.returns
 returns c =
     let r = c.args.self.now in
     let k = c.keep-stored.new.self in
-    let e = c.join-pending.new.self in
+    let e = c.join_pending.new.self in
     let o = c.requires.fits in
     let kept = c.keep-stored.ensures.stays in
     let is = c.keep-stored.ensures.stored in
-    let whole = c.join-pending.ensures.stays ∙ ap (with_pending e.pending e.pending_count) kept in
+    let whole = c.join_pending.ensures.stays ∙ ap (with_pending e.pending e.pending_count) kept in
     let table = subst (λ (s : Stored). take k.received_count k.received ≡ put by_index index_named s (take r.received_count r.received)) is c.keep-stored.ensures.table in
-    let out = subst (λ (x : Record). take x.job_pending e.pending ≡ take x.job_pending x.pending) kept c.join-pending.ensures.job in
-    let waiting = subst (λ (x : Record). drop x.job_pending (take e.pending_count e.pending) ≡ put by_sender sender_named (record { sender = c.args.sender.now; shard = c.keep-stored.result }) (drop x.job_pending (take x.pending_count x.pending))) kept c.join-pending.ensures.table in
+    let out = subst (λ (x : Record). take x.job_pending e.pending ≡ take x.job_pending x.pending) kept c.join_pending.ensures.job in
+    let waiting = subst (λ (x : Record). drop x.job_pending (take e.pending_count e.pending) ≡ put by_sender sender_named (record { sender = c.args.sender.now; shard = c.keep-stored.result }) (drop x.job_pending (take x.pending_count x.pending))) kept c.join_pending.ensures.table in
     let waits = subst (λ (s : Stored). drop r.job_pending (take e.pending_count e.pending) ≡ put by_sender sender_named (record { sender = c.args.sender.now; shard = s }) (drop r.job_pending (take r.pending_count r.pending))) is waiting in
-    let counts = subst (λ (x : Record). (x.pending_count ≤ e.pending_count) × (e.pending_count ≤ x.pending_count + 1)) kept c.join-pending.ensures.count in
-    let wide : length e.pending ≡ 64 = c.join-pending.ensures.long ∙ ap (λ (x : Record). length x.pending) kept ∙ o.sound.pending_room in
+    let counts = subst (λ (x : Record). (x.pending_count ≤ e.pending_count) × (e.pending_count ≤ x.pending_count + 1)) kept c.join_pending.ensures.count in
+    let wide : length e.pending ≡ 64 = c.join_pending.ensures.long ∙ ap (λ (x : Record). length x.pending) kept ∙ o.sound.pending_room in
     let long : length k.received ≡ 64 = c.keep-stored.ensures.long ∙ o.sound.received_room in
     record {
       waits = λ size blobs filed. ap (view (memory c.args.width c.keep-stored.new.shards size blobs) filed c.args.slot) whole ∙ waits-view c.args.width c.args.slot c.args.shard.index c.args.shard.bytes.now c.args.shards.now c.keep-stored.new.shards size blobs r o c.keep-stored.ensures.written c.keep-stored.ensures.others c.args.sender.now k.received k.received_count e.pending e.pending_count c.requires.before table out waits filed;

@@ -1,4 +1,4 @@
-use Rattle.std.proofs.Common.{◌≡◌, ℕ, ◌+◌, cond, drop, Some, sym, ap, ◌∙◌}
+use Rattle.std.proofs.Common.{ℕ, ◌+◌, cond, drop, Some, sym, ap, ◌∙◌}
 use Rattle.std.specs.Option.{option_map}
 use Rattle.rosters.specs.Sound.{all_bytes, bytes_of, index}
 use Rattle.rosters.proofs.Scans.{index_at, index_end, not_equal, shift_none}
@@ -13,7 +13,7 @@ loop-i-preserved c =
     let ks = c.args.keys.now in
     let i = c.loop-i.i in
     let rest = option_map (λ (j : ℕ). i + 1 + j) (index k (all_bytes (drop (i + 1) ks))) in
-    ap (λ b. cond b (Some i) rest) (sym (not_equal c.compare.result c.in-default.not-Equal)) ∙ sym (index_at k ks i _ c.loop-i-test.true c.compare.ensures) ∙ c.loop-i.invariant
+    ap (λ b. cond b (Some i) rest) (sym (not_equal c.compare.result c.in_default.not-Equal)) ∙ sym (index_at k ks i _ c.loop-i-test.true c.compare.ensures) ∙ c.loop-i.invariant
 
 pub returns : goal.returns
 returns c =
