@@ -99,7 +99,7 @@ def main():
     for path in texts("src/**/*.rt"):
         with open(path, encoding="utf-8") as f:
             old = f.read()
-        pieces = re.split(r"(\"(?:[^\"\\\n]|\\.)*\"|//[^\n]*)", old)
+        pieces = re.split(r"(\"(?:[^\"\\]|\\.)*\"|//[^\n]*)", old)
         new = "".join(p if i % 2 else renamed(p, table) for i, p in enumerate(pieces))
         if new != old:
             with open(path, "w", encoding="utf-8") as f:

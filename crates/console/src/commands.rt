@@ -12,7 +12,7 @@ use std::{env, fs};
 const USAGE: &str = "usage: covasluk open FILE..
   Opens a block from the shards in each file, and prints each shard's verdict, then the block or the fault.
   A file is text, one thing to a line, with what is taken where a line is left out:
-    hash NAME        sha-256 or sha3_256 (sha-256)
+    hash NAME        sha-256 or sha3-256 (sha-256)
     scheme NAME      copy or parity (copy)
     kind NAME        plain or listed (plain)
     limit N          the largest blob in bytes, 1 to 16384 (16384)

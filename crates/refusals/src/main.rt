@@ -1,4 +1,6 @@
 // Shard files that cannot be read, and what is said of each: the line and what is wrong with it.
+#![tactic(auto)]
+
 use shardfile::parse::parse;
 
 const COMMITMENT: &str =
