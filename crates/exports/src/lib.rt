@@ -1,4 +1,6 @@
 // C-callable functions on byte slices: thin, and nothing else.
+#![tactic(auto)]
+
 ghost use Rattle.std.specs.Prelude.{cond, ◌++◌, ◌≡◌, eqb, length};
 ghost use Rattle.sha256.specs.Fips180.{sha256};
 ghost use Rattle.sha3.specs.Fips202.{sha3_256};
