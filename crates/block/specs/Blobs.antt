@@ -1,5 +1,5 @@
 -- A blob is a block and four config bytes; it fits a commitment if digest, config and the context's hash agree. Assumes nothing.
-use Rattle.std.specs.Prelude.{ℕ, ◌+◌, Bool, true, false, cond, not, ◌&&◌, List, length, take, drop, Some, None, Ok, Err, Option, Result, ◌==◌}
+use Rattle.std.specs.Prelude.{ℕ, ◌+◌, Bool, cond, not, ◌&&◌, List, length, take, drop, Some, None, Ok, Err, Option, Result, ◌==◌}
 use Rattle.std.specs.Str.{bytes_eq}
 use Rattle.register.specs.declared.commitment.Config.{Config}
 use Rattle.register.specs.Commitments.{block_of, config_at, config_of, context_of}

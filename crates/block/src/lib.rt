@@ -1,4 +1,6 @@
 // What a block kind means, and which blobs fit a commitment.
+#![tactic(auto)]
+
 pub mod blob;
 pub mod head;
 pub mod kind;

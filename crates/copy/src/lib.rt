@@ -1,4 +1,6 @@
 // The scheme Copy: a shard is the whole blob, and the first one opens it.
+#![tactic(auto)]
+
 ghost use Rattle.copy.specs.Copies.{copy_good, copy_opens};
 
 use hash::Hash;

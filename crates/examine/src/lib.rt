@@ -1,4 +1,6 @@
 // Examining what reached a node for one block: each shard's verdict, then the block or the fault.
+#![tactic(auto)]
+
 use reconstruct::outcome::Outcome;
 
 #[derive(Drop)]

@@ -1,4 +1,6 @@
 // Intake: what one shard does to the record that it is for.
+#![tactic(auto)]
+
 pub mod arrive;
 pub mod class;
 pub mod received;

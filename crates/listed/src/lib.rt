@@ -1,4 +1,6 @@
 // The block kind Listed: a head and a list of entries.
+#![tactic(auto)]
+
 ghost use Rattle.std.specs.Prelude.{◌≡◌};
 ghost use Rattle.listed.specs.Listeds.{listed_reads};
 ghost use Rattle.listed.specs.Walking.{listed_inside};

@@ -1,9 +1,8 @@
 -- Boxes: what waits there, what is drawn and in which order. Assumes nothing.
-use Rattle.std.specs.Prelude.{ℕ, zero, suc, ◌-◌, Bool, true, false, cond, ◌&&◌, ◌||◌, List, [], ◌∷◌, ◌++◌, map, length, take, drop, is_some, Some, None, Option, ◌==◌, nat_lt}
+use Rattle.std.specs.Prelude.{ℕ, zero, suc, ◌-◌, Bool, false, cond, ◌&&◌, ◌||◌, List, [], ◌∷◌, ◌++◌, map, length, take, drop, is_some, Some, None, Option, ◌==◌, nat_lt}
 use Rattle.std.specs.Str.{bytes_eq}
 use Rattle.register.specs.Order.{order}
 use Rattle.rosters.specs.Sound.{index}
-use Rattle.scheme.specs.Pieces.{Indexed}
 use Rattle.table.specs.Laws.{look}
 use Rattle.table.specs.Table.{changed}
 use Rattle.model.specs.State.{Early, Peer, Sent, key_of}

@@ -1,5 +1,5 @@
 -- What is asked of an engine, and what it answers. Assumes nothing.
-use Rattle.std.specs.Prelude.{ℕ, ◌+◌, ◌-◌, ◌*◌, Bool, true, false, cond, not, ◌&&◌, ◌||◌, List, length, take, is_some, is_ok, Some, None, Option, ◌==◌, nat_le}
+use Rattle.std.specs.Prelude.{ℕ, ◌-◌, Bool, false, cond, ◌&&◌, List, length, take, is_some, is_ok, Some, None, Option, ◌==◌, nat_le}
 use Rattle.register.specs.Commitments.{committed}
 use Rattle.register.specs.declared.counters.Round.{Round}
 use Rattle.rosters.specs.Sound.{ascending}

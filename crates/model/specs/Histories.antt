@@ -1,5 +1,5 @@
 -- Histories: the calls that an engine was given and what it answered, the latest first. Assumes nothing.
-use Rattle.std.specs.Prelude.{◌≡◌, ℕ, Bool, true, false, cond, ◌⊎◌, List, [], ◌∷◌, is_some, IfSome, Some, None, Option}
+use Rattle.std.specs.Prelude.{◌≡◌, ℕ, Bool, true, false, cond, ◌⊎◌, List, [], ◌∷◌, is_some, IfSome, Option}
 use Rattle.register.specs.Order.{order}
 use Rattle.register.specs.declared.counters.Round.{Round}
 use Rattle.rosters.specs.Roster.{Fair}
@@ -9,7 +9,7 @@ use Rattle.table.specs.Table.{changed, put, without}
 use Rattle.model.specs.Calls.{Answer, refused, answered, changed_peers, given, told, Call, discovery, notarization, shard, completion, peer_change, block_look_up, verified_look_up}
 use Rattle.model.specs.Meaning.{Meaning, Roster}
 use Rattle.model.specs.State.{Limits, State, fresh, larger}
-use Rattle.model.specs.Steps.{Step, step}
+use Rattle.model.specs.Steps.{step}
 use Rattle.model.specs.Window.{trimmed}
 use Rattle.model.specs.declared.answer.Outcome.{Outcome}
 use Rattle.model.specs.declared.answer.Outcome.TheVariants.{NoEpoch, NoMember, OtherEpoch, LeaderStands, Declined, Held, Cached, Ignored, Boxed, NotBoxed, Gain, NoGain, Short, Rebuilt, Failed}

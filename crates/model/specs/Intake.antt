@@ -1,6 +1,6 @@
 -- Intake: what one shard does to the record that it is for. Assumes nothing.
 use Rattle.std.specs.Prelude.{ℕ, Bool, true, false, cond, ◌&&◌, List, [], ◌∷◌, ◌++◌, Some, None, Option, ◌==◌, slice_index_or, slice_set}
-use Rattle.std.specs.Cmp.{rank}
+use Rattle.std.specs.Ordering.{nat_cmp}
 use Rattle.std.specs.Str.{bytes_eq}
 use Rattle.register.specs.Order.{order}
 use Rattle.rosters.specs.Sound.{index}
@@ -8,7 +8,7 @@ use Rattle.scheme.specs.Pieces.{Indexed}
 use Rattle.table.specs.Laws.{look}
 use Rattle.table.specs.Table.{put}
 use Rattle.model.specs.Meaning.{Meaning, good_for}
-use Rattle.model.specs.State.{Job, Phase, awaiting, cached, Rec, Sent, Shards, with_contribution}
+use Rattle.model.specs.State.{Phase, awaiting, cached, Rec, Sent, Shards, with_contribution}
 use Rattle.model.specs.declared.answer.Reason.{Reason}
 use Rattle.model.specs.declared.answer.Reason.TheVariants.{Stranger, WrongIndex, Equivocation, BadAssigned}
 
@@ -43,7 +43,7 @@ abbrev pub sender_of : Sent → List ℕ
 sender_of p = p.sender
 
 abbrev pub received_at : ℕ → Shards → Option Indexed
-received_at i w = look rank index_of i w.received
+received_at i w = look nat_cmp index_of i w.received
 
 -- the leader is known, and is this key
 abbrev pub leads : Option (List ℕ) → List ℕ → Bool
@@ -65,11 +65,11 @@ led (Some l) known unknown = known
 
 abbrev pub with_received : Indexed → List Indexed → Shards → Shards
 with_received s checked w =
-    record { received = put rank index_of s w.received; checked = checked; pending = w.pending; job = w.job }
+    record { received = put nat_cmp index_of s w.received; checked = checked; pending = w.pending; job = w.job }
 
 abbrev pub with_pending : Sent → Shards → Shards
 with_pending p w =
-    record { received = put rank index_of p.shard w.received; checked = w.checked; pending = put order sender_of p w.pending; job = w.job }
+    record { received = put nat_cmp index_of p.shard w.received; checked = w.checked; pending = put order sender_of p w.pending; job = w.job }
 
 abbrev pub contributes : Indexed → Rec → List Bool
 contributes s r = slice_set r.contributed s.index true

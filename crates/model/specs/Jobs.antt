@@ -1,5 +1,5 @@
 -- Jobs: what starts one, and what its completion comes to. Assumes nothing.
-use Rattle.std.specs.Prelude.{ℕ, suc, ◌+◌, ◌-◌, Bool, cond, not, List, [], ◌++◌, map, length, take, drop, Some, None, Ok, Err, filter, Option, Result, nat_le, nat_lt}
+use Rattle.std.specs.Prelude.{ℕ, suc, ◌+◌, ◌-◌, cond, not, List, [], ◌++◌, map, length, take, drop, Some, None, Ok, Err, filter, Option, Result, nat_le, nat_lt}
 use Rattle.block.specs.declared.kind.Reading.{Reading}
 use Rattle.reconstruct.specs.declared.error.Error.{Error}
 use Rattle.scheme.specs.Pieces.{Indexed}

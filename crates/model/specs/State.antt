@@ -1,6 +1,5 @@
 -- What a node holds: records by commitment, and for each primary peer a box of what came early. Assumes nothing.
 use Rattle.std.specs.Prelude.{ℕ, Bool, false, cond, ◌&&◌, ◌||◌, List, [], replicate, None, Option, ◌==◌, nat_lt}
-use Rattle.std.specs.Str.{bytes_eq}
 use Rattle.register.specs.Order.{order}
 use Rattle.register.specs.declared.counters.Round.{Round}
 use Rattle.scheme.specs.Pieces.{Indexed}

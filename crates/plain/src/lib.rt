@@ -1,4 +1,6 @@
 // The block kind Plain: a head and one payload.
+#![tactic(auto)]
+
 ghost use Rattle.std.specs.Prelude.{◌≡◌};
 ghost use Rattle.plain.specs.Plains.{plain_reads};
 ghost use Rattle.plain.specs.Exactly;

@@ -4,7 +4,7 @@ use mathlib.Core.List.{map-append}
 use lib.Seq.{drop-append-le, take-set-le}
 use Rattle.std.proofs.ByRecursion.{All-append, All-drop, All-push, All-take, All-weaker}
 use Rattle.std.proofs.lemmas.List.{take-map, drop-map}
-use Rattle.std.specs.Cmp.{rank}
+use Rattle.std.specs.Ordering.{nat_cmp}
 use Rattle.std.specs.List.{AllByRecursion}
 use Rattle.places.specs.Places.{held}
 use Rattle.register.specs.Order.{order}
@@ -65,9 +65,9 @@ module _ (width slot i : ℕ) (bytes shards after : List ℕ) (size : ℕ) (blob
   still_sent : (p : Pending) → Lies width r.contributed p.shard → sent_in new slot p ≡ sent_in at slot p
   still_sent = sent_still width slot i shards after size blobs r.contributed o.fresh others
 
-  received_is : (n : ℕ) (R : List Stored) → take n R ≡ put by_index index_named stored (take r.received_count r.received) → map (shard_in new slot) (take n R) ≡ put rank index_of shard (map (shard_in at slot) (take r.received_count r.received))
+  received_is : (n : ℕ) (R : List Stored) → take n R ≡ put by_index index_named stored (take r.received_count r.received) → map (shard_in new slot) (take n R) ≡ put nat_cmp index_of shard (map (shard_in at slot) (take r.received_count r.received))
   received_is n R t =
-      ap (map (shard_in new slot)) t ∙ stored_put width slot i shards after size blobs r.contributed o.fresh others stored (take r.received_count r.received) o.sound.received_lie ∙ ap (λ s. put rank index_of s (map (shard_in at slot) (take r.received_count r.received))) shard_is
+      ap (map (shard_in new slot)) t ∙ stored_put width slot i shards after size blobs r.contributed o.fresh others stored (take r.received_count r.received) o.sound.received_lie ∙ ap (λ s. put nat_cmp index_of s (map (shard_in at slot) (take r.received_count r.received))) shard_is
 
   checked_alike : map (shard_in new slot) (take r.checked_count r.checked) ≡ map (shard_in at slot) (take r.checked_count r.checked)
   checked_alike = map_alike (Lies width r.contributed) (shard_in new slot) (shard_in at slot) (take r.checked_count r.checked) still o.sound.checked_lie

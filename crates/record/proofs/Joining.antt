@@ -2,7 +2,7 @@
 use Rattle.std.proofs.Common.{◌≡◌, ℕ, ◌+◌, ◌-◌, ◌*◌, ◌<◌, ◌≤◌, Bool, true, false, cond, List, [], ◌∷◌, ◌++◌, map, length, get_or, take, drop, set, sym, refl, ap, ◌∙◌, arith, get_or-set_other, get_or-set_same, take-take}
 use native.Mathlib.Decide.{dec_lt}
 use Rattle.std.proofs.lemmas.List.{take-map, drop-map}
-use Rattle.std.specs.Cmp.{rank}
+use Rattle.std.specs.Ordering.{nat_cmp}
 use Rattle.std.specs.List.{AllByRecursion}
 use Rattle.places.specs.Places.{held}
 use Rattle.register.specs.Order.{order}
@@ -55,8 +55,8 @@ module _ (width slot i : ℕ) (shards after : List ℕ) (size : ℕ) (blobs : Li
   sent_still p l = ap (λ x. record { sender = p.sender.bytes; shard = x }) (lies_still p.shard l)
 
   -- a table of stored shards with one put in
-  pub stored_put : (e : Stored) (xs : List Stored) → AllByRecursion (Lies width flags) xs → map (shard_in new slot) (put by_index index_named e xs) ≡ put rank index_of (shard_in new slot e) (map (shard_in at slot) xs)
-  stored_put e xs all = map-put by_index index_named rank index_of (shard_in new slot) e xs (λ x. refl) ∙ ap (put rank index_of (shard_in new slot e)) (map_alike (Lies width flags) (shard_in new slot) (shard_in at slot) xs lies_still all)
+  pub stored_put : (e : Stored) (xs : List Stored) → AllByRecursion (Lies width flags) xs → map (shard_in new slot) (put by_index index_named e xs) ≡ put nat_cmp index_of (shard_in new slot e) (map (shard_in at slot) xs)
+  stored_put e xs all = map-put by_index index_named nat_cmp index_of (shard_in new slot) e xs (λ x. refl) ∙ ap (put nat_cmp index_of (shard_in new slot e)) (map_alike (Lies width flags) (shard_in new slot) (shard_in at slot) xs lies_still all)
 
   pub sent_put : (e : Pending) (xs : List Pending) → AllByRecursion (λ p. Lies width flags p.shard) xs → map (sent_in new slot) (put by_sender sender_named e xs) ≡ put order sender_of (sent_in new slot e) (map (sent_in at slot) xs)
   sent_put e xs all = map-put by_sender sender_named order sender_of (sent_in new slot) e xs (λ x. refl) ∙ ap (put order sender_of (sent_in new slot e)) (map_alike (λ p. Lies width flags p.shard) (sent_in new slot) (sent_in at slot) xs sent_still all)

@@ -1,7 +1,7 @@
 -- A record with one of its lists changed, and what the lists are ordered by. Assumes nothing.
 use Rattle.std.specs.Prelude.{ℕ, Bool, true, List}
 use Rattle.std.specs.declared.cmp.Ordering.{Ordering}
-use Rattle.std.specs.Cmp.{rank}
+use Rattle.std.specs.Ordering.{nat_cmp}
 use Rattle.register.specs.Order.{order}
 use Rattle.register.specs.declared.key.Key.{Key}
 use Rattle.register.specs.declared.ordered.Index.{Index}
@@ -10,7 +10,7 @@ use Rattle.record.specs.declared.stored.Pending.{Pending}
 use Rattle.record.specs.declared.stored.Stored.{Stored}
 
 abbrev pub by_index : Index → Index → Ordering
-by_index a b = rank a.0 b.0
+by_index a b = nat_cmp a.0 b.0
 
 abbrev pub index_named : Stored → Index
 index_named s = s.index

@@ -1,4 +1,6 @@
 // A record: what a node keeps of one commitment, in fixed memory.
+#![tactic(auto)]
+
 pub mod filing;
 pub mod fresh;
 pub mod jobs;

@@ -1,4 +1,6 @@
 // What holds of every history that leads to a state.
+#![tactic(auto)]
+
 ghost use Rattle.runs.specs.Blocks.{AlwaysHandedIn};
 ghost use Rattle.runs.specs.Causes.{NeverWithoutCause};
 ghost use Rattle.runs.specs.Rolls.{RollsFollow};

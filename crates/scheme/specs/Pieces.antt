@@ -1,5 +1,5 @@
 -- Shards with their indices, and one verdict for each. Assumes nothing.
-use Rattle.std.specs.Prelude.{ℕ, Bool, true, false, cond, List, ◌++◌, map, length, drop, nat_le}
+use Rattle.std.specs.Prelude.{ℕ, Bool, cond, List, ◌++◌, map, length, drop, nat_le}
 use Rattle.scheme.specs.declared.piece.Piece.{Piece}
 
 pub record Indexed : Type 0 where

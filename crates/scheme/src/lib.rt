@@ -1,4 +1,6 @@
 // What a coding scheme means: which shards are good, and what a list of them opens to.
+#![tactic(auto)]
+
 pub mod fault;
 pub mod piece;
 pub mod scheme;

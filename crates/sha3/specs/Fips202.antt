@@ -49,20 +49,20 @@ unfoldable pub χ : List ℕ → List ℕ
 χ A = lanes (λ x y. at A x y ⊕ bit_and ((2 ^ 64 - 1) - at A ((x + 1) % 5) y) (at A ((x + 2) % 5) y))
 
 -- §3.2.5: the register R of eight bits, a number, its bit i worth 2 ^ i. A step moves each bit one up and adds the new bit 8 to bits 0, 4, 5 and 6.
-abbrev pub RAfter : ℕ → ℕ → ℕ
-RAfter zero R = R
-RAfter (suc t) R = RAfter t (R * 2 % 2 ^ 8 ⊕ R / 2 ^ 7 * (2 ^ 0 + 2 ^ 4 + 2 ^ 5 + 2 ^ 6))
+abbrev pub R_after : ℕ → ℕ → ℕ
+R_after zero R = R
+R_after (suc t) R = R_after t (R * 2 % 2 ^ 8 ⊕ R / 2 ^ 7 * (2 ^ 0 + 2 ^ 4 + 2 ^ 5 + 2 ^ 6))
 
 abbrev pub rc : ℕ → ℕ
-rc t = RAfter (t % 255) 1 % 2
+rc t = R_after (t % 255) 1 % 2
 
 -- Bit 2 ^ j - 1 of RC is rc(j + 7 ir), for j = 0 .. 6; its other bits are 0.
-abbrev pub RCFrom : ℕ → ℕ → ℕ → ℕ
-RCFrom zero j ir = 0
-RCFrom (suc left) j ir = rc (j + 7 * ir) * 2 ^ (2 ^ j - 1) + RCFrom left (j + 1) ir
+abbrev pub RC_from : ℕ → ℕ → ℕ → ℕ
+RC_from zero j ir = 0
+RC_from (suc left) j ir = rc (j + 7 * ir) * 2 ^ (2 ^ j - 1) + RC_from left (j + 1) ir
 
 unfoldable pub RC : ℕ → ℕ
-RC ir = RCFrom 7 0 ir
+RC ir = RC_from 7 0 ir
 
 unfoldable pub ι : List ℕ → ℕ → List ℕ
 ι A ir = slice_set A 0 (at A 0 0 ⊕ RC ir)

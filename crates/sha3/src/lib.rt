@@ -1,4 +1,6 @@
 // SHA3-256, proved equal to the definition of FIPS 202.
+#![tactic(auto)]
+
 mod keccak;
 mod sponge;
 

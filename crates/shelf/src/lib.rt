@@ -1,3 +1,5 @@
 // The records of a node: an ordered table of commitments, and the records in slots that never move.
+#![tactic(auto)]
+
 pub mod lent;
 pub mod shelf;

@@ -4,7 +4,7 @@ ghost use Rattle.choice.specs.Choices.{good_by, opens_by};
 use crate::schemes::SchemeChoice;
 use copy::Copies;
 use hash::Hash;
-use parity::scheme::Parity;
+use parity::coding::Parity;
 use register::commitment::Config;
 use scheme::fault::Fault;
 use scheme::piece::Piece;

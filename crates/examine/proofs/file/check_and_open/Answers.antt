@@ -1,11 +1,11 @@
 use Rattle.examine.proofs.Examining.{examined, is_given}
 use Rattle.examine.proofs.file.check_and_open.Goals as goal
 
-pub expect-requires : goal.expect-requires
-expect-requires c =
+pub unwrap-requires : goal.unwrap-requires
+unwrap-requires c =
     is_given c.args.file.now c.args.shards.now c.args.verdicts.now c.requires.room c.reconstruct-outcome.result c.args.place.now c.reconstruct-outcome.ensures.gives
 
 pub returns : goal.returns
 returns c =
     let told = c.reconstruct-outcome.ensures in
-    examined c.args.file.now c.args.shards.now c.args.verdicts.now c.requires.room c.reconstruct-outcome.result c.args.place.now told.gives c.expect.result c.expect.ensures c.requires.arrived c.requires.clear c.reconstruct-outcome.new.place c.reconstruct-outcome.new.verdicts told.writes told.judges
+    examined c.args.file.now c.args.shards.now c.args.verdicts.now c.requires.room c.reconstruct-outcome.result c.args.place.now told.gives c.unwrap.result c.unwrap.ensures c.requires.arrived c.requires.clear c.reconstruct-outcome.new.place c.reconstruct-outcome.new.verdicts told.writes told.judges

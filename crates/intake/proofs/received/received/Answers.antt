@@ -1,5 +1,5 @@
 use Rattle.std.proofs.Common.{◌≡◌, ℕ, ◌+◌, ◌*◌, List, map, take, Some, None, sym, refl, ap, ◌∙◌, arith}
-use Rattle.std.specs.Cmp.{rank}
+use Rattle.std.specs.Ordering.{nat_cmp}
 use Rattle.std.specs.Option.{option_map}
 use Rattle.model.specs.Intake.{index_of}
 use Rattle.places.proofs.Putting.{step_up}
@@ -23,10 +23,10 @@ returns-in-Some c size blobs =
     let r = c.args.rec.now in
     let at = memory c.args.width c.args.shards.now size blobs in
     ap Some c.load.ensures.value
-    ∙ ap (option_map bytes_of) (ap (option_map (shard_in at c.args.slot)) c.in-Some.ensures ∙ sym (map-look by_index index_named rank index_of (shard_in at c.args.slot) (record { 0 = c.args.index }) c.args.index (take r.received_count r.received) (λ x. refl)))
+    ∙ ap (option_map bytes_of) (ap (option_map (shard_in at c.args.slot)) c.in-Some.ensures ∙ sym (map-look by_index index_named nat_cmp index_of (shard_in at c.args.slot) (record { 0 = c.args.index }) c.args.index (take r.received_count r.received) (λ x. refl)))
 
 pub returns-in-None : goal.returns-in-None
 returns-in-None c size blobs =
     let r = c.args.rec.now in
     let at = memory c.args.width c.args.shards.now size blobs in
-    ap (option_map bytes_of) (ap (option_map (shard_in at c.args.slot)) c.in-None.ensures ∙ sym (map-look by_index index_named rank index_of (shard_in at c.args.slot) (record { 0 = c.args.index }) c.args.index (take r.received_count r.received) (λ x. refl)))
+    ap (option_map bytes_of) (ap (option_map (shard_in at c.args.slot)) c.in-None.ensures ∙ sym (map-look by_index index_named nat_cmp index_of (shard_in at c.args.slot) (record { 0 = c.args.index }) c.args.index (take r.received_count r.received) (λ x. refl)))

@@ -13,4 +13,4 @@ loop-done-preserved c =
     let whole : 4 + (done + run) ≤ length bytes = omega (arith, c.requires.within) in
     let room : done + run ≤ length c.loop-done.place = omega (arith, c.requires.room, c.loop-done.auto.place) in
     let m : done + run - done ≡ run = omega arith in
-    (low, write_run c.args.place.now c.loop-done.place bytes c.copy-run.new.out done run (done + run - done) (length (take (done + run - done) (drop done c.loop-done.place))) c.loop-done.invariant.1 whole m (part_length c.loop-done.place done run room) c.copy-run.ensures)
+    (low, write_run c.args.place.now c.loop-done.place bytes c.copy_run.new.out done run (done + run - done) (length (take (done + run - done) (drop done c.loop-done.place))) c.loop-done.invariant.1 whole m (part_length c.loop-done.place done run room) c.copy_run.ensures)

@@ -7,7 +7,7 @@ use Rattle.parity.proofs.framing.xor_from.Goals as goal
 pub loop-i-preserved : goal.loop-i-preserved
 loop-i-preserved c =
     let h : c.loop-i.i < length c.loop-i.out = omega arith in
-    xors_more (λ k. xored (c.args.at + k) (map (λ x. x.now) c.args.picks.now)) c.loop-i.out c.loop-i.i c.xor-at.result h c.loop-i.invariant c.xor-at.ensures
+    xors_more (λ k. xored (c.args.at + k) (map (λ x. x.now) c.args.picks.now)) c.loop-i.out c.loop-i.i c.xor_at.result h c.loop-i.invariant c.xor_at.ensures
 
 pub returns : goal.returns
 returns c =

@@ -5,4 +5,4 @@ use Rattle.sha3.proofs.keccak.theta.Goals as goal
 
 pub returns : goal.returns
 unfolding θ
-returns c = ap (λ d. lanes (λ x y. bit_xor (at c.args.a x y) (get_or d x 0))) c.theta-sums-d.ensures
+returns c = ap (λ d. lanes (λ x y. bit_xor (at c.args.a x y) (get_or d x 0))) c.theta_sums-d.ensures

@@ -1,4 +1,4 @@
-use Rattle.std.proofs.Common.{◌≡◌, ◌+◌, ◌/◌, ◌++◌, length, drop, refl, ap, ◌∙◌, arith, length-append}
+use Rattle.std.proofs.Common.{◌≡◌, ◌/◌, ◌++◌, length, drop, refl, ap, ◌∙◌, arith, length-append}
 use Rattle.sha3.specs.Fips202.{absorbed, padded, sha3_256, squeezed}
 use Rattle.sha3.proofs.Absorbing.{one_more}
 use Rattle.sha3.proofs.Padding.{blocks}
@@ -11,10 +11,10 @@ loop-i-init c = refl
 pub loop-i-preserved : goal.loop-i-preserved
 loop-i-preserved c =
     one_more c.args.first.now c.args.second.now c.after-head.result.now c.after-tail.result.now
-    c.loop-i.state c.absorb.result c.keccak-f-next.result c.loop-i.i
+    c.loop-i.state c.absorb.result c.keccak_f-next.result c.loop-i.i
     (omega arith) c.after-head.ensures
-    (c.after-tail.ensures ∙ ap (λ n. drop n c.args.second.now) c.saturating-sub.ensures)
-    c.loop-i.invariant c.absorb.ensures c.keccak-f-next.ensures
+    (c.after-tail.ensures ∙ ap (λ n. drop n c.args.second.now) c.saturating_sub.ensures)
+    c.loop-i.invariant c.absorb.ensures c.keccak_f-next.ensures
 
 pub returns : goal.returns
 unfolding sha3_256

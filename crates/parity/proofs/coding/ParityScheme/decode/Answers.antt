@@ -1,7 +1,7 @@
 use Rattle.std.proofs.Common.{map, length}
 use Rattle.scheme.specs.Pieces.{indexed}
 use Rattle.parity.proofs.Unframing.{opens_picks}
-use Rattle.parity.proofs.scheme.ParityScheme.decode.Goals as goal
+use Rattle.parity.proofs.coding.ParityScheme.decode.Goals as goal
 
 pub returns : goal.returns
 returns g c =
