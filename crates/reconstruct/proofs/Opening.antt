@@ -1,5 +1,5 @@
 -- What a decoding and a fit say together. Assumes nothing.
-use Rattle.std.proofs.Common.{◌≡◌, ℕ, ◌-◌, ◌≤◌, List, ◌++◌, length, take, drop, Ok, Err, Option, Result, sym, refl, ap, ◌∙◌, subst, arith, take-append-drop, length-take-le}
+use Rattle.std.proofs.Common.{◌≡◌, ℕ, ◌-◌, ◌≤◌, List, length, take, drop, Ok, Option, Result, sym, ap, ◌∙◌, arith, take-append-drop, length-take-le}
 use native.Mathlib.Nat.{sub-zero}
 use Rattle.block.specs.Blobs.{fitted}
 use Rattle.block.specs.declared.blob.Misfit.{Misfit}

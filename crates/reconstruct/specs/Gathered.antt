@@ -1,5 +1,5 @@
 -- The shards that a block is opened from: those checked before, then the pending ones that are good. Assumes nothing.
-use Rattle.std.specs.Prelude.{ℕ, ◌-◌, Bool, ◌&&◌, List, ◌++◌, length, take, drop, filter, nat_le}
+use Rattle.std.specs.Prelude.{ℕ, ◌-◌, Bool, ◌&&◌, List, ◌++◌, take, drop, filter, nat_le}
 use Rattle.scheme.specs.Pieces.{Indexed}
 
 -- the first `checked` of the shards have been checked, and the others are pending

@@ -1,4 +1,6 @@
 // From shards to a block or a fault.
+#![tactic(auto)]
+
 pub mod error;
 pub mod gather;
 mod keep;

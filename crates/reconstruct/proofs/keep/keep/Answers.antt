@@ -1,4 +1,4 @@
-use Rattle.std.proofs.Common.{◌≡◌, ◌<◌, ◌≤◌, [], length, arith}
+use Rattle.std.proofs.Common.{◌<◌, ◌≤◌, [], length, arith}
 use Rattle.std.proofs.lemmas.List.{take_all}
 use Rattle.scheme.specs.declared.piece.Piece.{Piece}
 use Rattle.reconstruct.proofs.Passing.{passing_no, passing_yes}
