@@ -1,22 +1,29 @@
+use Rattle.std.proofs.Common.{map, length}
 use Rattle.std.proofs.lemmas.Result.{err_from_is_err_and}
+use Rattle.register.specs.Commitments.{under}
+use Rattle.scheme.specs.Pieces.{indexed}
 use Rattle.reconstruct.proofs.Opening.{opened_fits, opened_writes}
 use Rattle.reconstruct.proofs.open.open.Goals as goal
 
 pub returns-in_err-reading : goal.returns-in_err-reading
 returns-in_err-reading g c =
     let d = c.in_ok-len.ensures in
+    let digest = g.D.Hash.digest c.args.hash.now in
+    let opened = under (g.S.Scheme.opens c.args.scheme.now digest) c.args.commitment.now.bytes (length c.args.place.now) (map indexed c.args.shards.now) in
     let t = simp (c.config.ensures, c.root.ensures) at d.tells in
     let p = err_from_is_err_and c.from_residual-in_err-reading.result c.from_residual-in_err-reading.ensures.1 in
     record {
-      gives = rw (p.1, p.2) (opened_fits (g.D.Hash.digest c.args.hash.now) (g.K.Kind.reads c.args.kind.now (g.D.Hash.digest c.args.hash.now)) c.args.commitment.now.bytes _ c.in_ok-len.len c.decode.new.place _ t c.in_err-reading.ensures);
-      writes = opened_writes _ c.in_ok-len.len c.args.place.now c.decode.new.place t d.within c.decode.auto.place d.behind;
+      gives = rw (p.1, p.2) (opened_fits digest (g.K.Kind.reads c.args.kind.now digest) c.args.commitment.now.bytes opened c.in_ok-len.len c.decode.new.place _ t c.in_err-reading.ensures);
+      writes = opened_writes opened c.in_ok-len.len c.args.place.now c.decode.new.place t d.within c.decode.auto.place d.behind;
     }
 
 pub returns : goal.returns
 returns g c =
     let d = c.in_ok-len.ensures in
+    let digest = g.D.Hash.digest c.args.hash.now in
+    let opened = under (g.S.Scheme.opens c.args.scheme.now digest) c.args.commitment.now.bytes (length c.args.place.now) (map indexed c.args.shards.now) in
     let t = simp (c.config.ensures, c.root.ensures) at d.tells in
     record {
-      gives = opened_fits (g.D.Hash.digest c.args.hash.now) (g.K.Kind.reads c.args.kind.now (g.D.Hash.digest c.args.hash.now)) c.args.commitment.now.bytes _ c.in_ok-len.len c.decode.new.place _ t c.in_ok-reading.ensures;
-      writes = opened_writes _ c.in_ok-len.len c.args.place.now c.decode.new.place t d.within c.decode.auto.place d.behind;
+      gives = opened_fits digest (g.K.Kind.reads c.args.kind.now digest) c.args.commitment.now.bytes opened c.in_ok-len.len c.decode.new.place _ t c.in_ok-reading.ensures;
+      writes = opened_writes opened c.in_ok-len.len c.args.place.now c.decode.new.place t d.within c.decode.auto.place d.behind;
     }
