@@ -7,10 +7,9 @@ use Rattle.std.specs.Option.{option_map}
 use Rattle.std.specs.List.{AllByRecursion}
 use Rattle.reconstruct.specs.Rebuilt.{raised, rebuilt}
 use Rattle.reconstruct.specs.declared.error.Error.{Error}
-use Rattle.rosters.specs.Sound.{index}
 use Rattle.scheme.specs.Pieces.{Indexed}
 use Rattle.model.specs.Calls.{Answer, refused, completion, block_look_up, block_in, gives, is_commitment, job_out, phase_of, turned_down, unless}
-use Rattle.model.specs.Histories.{Agrees, Assignment, Entry, Event, HandedIn, Leads, roll, since}
+use Rattle.model.specs.Histories.{Agrees, Assignment, Entry, Event, HandedIn, Leads, since}
 use Rattle.model.specs.Intake.{index_of}
 use Rattle.model.specs.Jobs.{completes, job_in, passing, shard_of}
 use Rattle.model.specs.Meaning.{Meaning, Roster, good_for, minimum_of, rebuilt_for}

@@ -1,6 +1,4 @@
 -- The promises of every run, put together; and what a call adds to a run.
-use mathlib.Core.List.{List, ◌∷◌}
-use mathlib.Core.Path.{◌≡◌}
 use Rattle.enough.proofs.Enough.{brought}
 use Rattle.runs.proofs.Causes.{never_without_cause}
 use Rattle.runs.proofs.Given.{always_handed_in}
