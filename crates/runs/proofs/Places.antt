@@ -6,7 +6,7 @@ use Rattle.std.specs.Ordering.{is_eq}
 use Rattle.register.specs.ByteOrder.{order_same}
 use Rattle.register.specs.Order.{order}
 use Rattle.rosters.specs.Roster.{Fair}
-use Rattle.rosters.specs.Sound.{below, index}
+use Rattle.rosters.specs.Sound.{index}
 use Rattle.model.specs.Intake.{assigned, owned, stray, classed, is_assigned, leads}
 use Rattle.runs.proofs.Entries.{never_some, some_same}
 

@@ -14,7 +14,7 @@ use Rattle.scheme.specs.Pieces.{Indexed}
 use Rattle.scheme.specs.Told.{Opened}
 use Rattle.model.specs.Histories.{Assignment}
 use Rattle.model.specs.Intake.{assigned, owned, classed, index_of, intake, joined, sender_of, verifies, waits, with_pending, with_received}
-use Rattle.model.specs.Jobs.{blob_in, completes, job_in, numbered, passing, returned_in, shard_of, started, takes, tried_in, tried_with, tries}
+use Rattle.model.specs.Jobs.{blob_in, completes, job_in, numbered, passing, returned_in, shard_of, started, tried_in, tried_with, tries}
 use Rattle.model.specs.Meaning.{Meaning, Roster, fitted_for, good_for, minimum_of, opened_for}
 use Rattle.model.specs.Promises.{Distinct}
 use Rattle.model.specs.State.{Job, Limits, Phase, awaiting, cached, Rec, Sent, Shards, larger, lower, new_record, with_phase}
