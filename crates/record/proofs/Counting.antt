@@ -1,5 +1,5 @@
 -- Contributions: at most one for each index, and one more where an index contributes for the first time.
-use Rattle.std.proofs.Common.{◌≡◌, ℕ, zero, suc, ◌+◌, ◌<◌, ◌≤◌, Bool, true, false, cond, List, [], ◌∷◌, length, get_or, set, refl, zero-le, arith, length-set}
+use Rattle.std.proofs.Common.{◌≡◌, ℕ, zero, suc, ◌+◌, ◌<◌, ◌≤◌, Bool, true, false, List, [], ◌∷◌, length, get_or, set, zero-le, arith, length-set}
 use Rattle.record.specs.Sound.{contributions}
 
 -- one more, where the index had not contributed

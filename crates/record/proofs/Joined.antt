@@ -1,5 +1,5 @@
 -- A record that has kept a shard means what the model's record means that waits for it or has checked it.
-use Rattle.std.proofs.Common.{◌≡◌, ℕ, ◌+◌, ◌-◌, ◌*◌, ◌<◌, ◌≤◌, Bool, true, false, cond, List, [], ◌∷◌, ◌++◌, map, length, get_or, take, drop, set, Option, sym, refl, ap, ◌∙◌, subst, add-one, arith, length-set, take-append-drop, length-take, get_or-set_same, take-take, take-suc-set}
+use Rattle.std.proofs.Common.{◌≡◌, ℕ, ◌+◌, ◌<◌, ◌≤◌, Bool, true, false, cond, List, [], ◌∷◌, ◌++◌, map, length, take, drop, set, sym, refl, ap, ◌∙◌, subst, add-one, arith, length-set, take-append-drop, length-take, get_or-set_same, take-take, take-suc-set}
 use mathlib.Core.List.{map-append}
 use lib.Seq.{drop-append-le, take-set-le}
 use Rattle.std.proofs.ByRecursion.{All-append, All-drop, All-push, All-take, All-weaker}
@@ -12,13 +12,13 @@ use Rattle.register.specs.declared.key.Key.{Key}
 use Rattle.scheme.specs.Pieces.{Indexed}
 use Rattle.model.specs.Intake.{index_of, sender_of}
 use Rattle.model.specs.Intake as model
-use Rattle.model.specs.State.{Job, Phase, awaiting, Sent, Shards, with_contribution}
+use Rattle.model.specs.State.{awaiting, with_contribution}
 use Rattle.table.proofs.Carried.{all_put}
 use Rattle.table.specs.Table.{put}
 use Rattle.record.specs.Fields.{by_index, by_sender, index_named, sender_named, with_checked, with_pending, with_received, with_verified}
 use Rattle.record.specs.Joins.{Open-to}
 use Rattle.record.specs.Sound.{Lies, Sound, contributions}
-use Rattle.record.specs.Views.{Memory, job_of, memory, phase_of, place_of, sent_in, shard_in, shards_of, view}
+use Rattle.record.specs.Views.{Memory, memory, phase_of, place_of, sent_in, shard_in, shards_of, view}
 use Rattle.record.specs.declared.record.Record.{Record}
 use Rattle.record.specs.declared.stored.Pending.{Pending}
 use Rattle.record.specs.declared.stored.Stored.{Stored}

@@ -1,14 +1,12 @@
 -- A shard that is kept: the others lie as they did, and each list holds what the model's holds.
-use Rattle.std.proofs.Common.{◌≡◌, ℕ, ◌+◌, ◌-◌, ◌*◌, ◌<◌, ◌≤◌, Bool, true, false, cond, List, [], ◌∷◌, ◌++◌, map, length, get_or, take, drop, set, sym, refl, ap, ◌∙◌, arith, get_or-set_other, get_or-set_same, take-take}
+use Rattle.std.proofs.Common.{◌≡◌, ℕ, ◌<◌, ◌≤◌, Bool, true, false, List, [], ◌∷◌, map, length, get_or, set, refl, ap, ◌∙◌, arith, get_or-set_other, get_or-set_same}
 use native.Mathlib.Decide.{dec_lt}
-use Rattle.std.proofs.lemmas.List.{take-map, drop-map}
 use Rattle.std.specs.Ordering.{nat_cmp}
 use Rattle.std.specs.List.{AllByRecursion}
 use Rattle.places.specs.Places.{held}
 use Rattle.register.specs.Order.{order}
-use Rattle.scheme.specs.Pieces.{Indexed}
 use Rattle.model.specs.Intake.{index_of, sender_of}
-use Rattle.table.proofs.Carried.{all_put, map-put}
+use Rattle.table.proofs.Carried.{map-put}
 use Rattle.table.specs.Table.{put}
 use Rattle.record.specs.Fields.{by_index, by_sender, index_named, sender_named}
 use Rattle.record.specs.Joins.{Elsewhere}

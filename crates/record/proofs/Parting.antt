@@ -1,5 +1,5 @@
 -- A table behind the first entries of a list: what the whole list holds once the table has changed.
-use Rattle.std.proofs.Common.{◌≡◌, ℕ, ◌+◌, ◌-◌, ◌≤◌, List, ◌++◌, length, take, drop, sym, refl, ap, ◌∙◌, arith, length-take, take-take, drop_at}
+use Rattle.std.proofs.Common.{◌≡◌, ℕ, ◌+◌, ◌-◌, ◌≤◌, List, ◌++◌, length, take, drop, sym, ap, ◌∙◌, arith, length-take, take-take, drop_at}
 use lib.Seq.{take-append-le}
 use borrow.Rule.Slice.PartMut.{post_of, put_mid}
 use Rattle.places.proofs.Putting.{dropped}

@@ -1,5 +1,5 @@
 -- A table with room turns an entry down only where its key is there.
-use Rattle.std.proofs.Common.{◌≡◌, ℕ, ◌<◌, Bool, true, false, ltb, Ok, Err, Result, sym, refl, ◌∙◌, arith}
+use Rattle.std.proofs.Common.{◌≡◌, ℕ, ◌<◌, true, Ok, Err, Result, refl, arith}
 use Rattle.std.proofs.lemmas.Bool.{le-ltb, lt-ltb}
 use Rattle.table.specs.Answers.{admits, inserts}
 use Rattle.table.specs.declared.Refusal.{Refusal}

@@ -1,12 +1,11 @@
 -- A job that starts: the record's counts alone change, and mean what the model's job takes.
-use Rattle.std.proofs.Common.{◌≡◌, ℕ, ◌+◌, ◌-◌, ◌<◌, ◌≤◌, min, Bool, true, false, cond, leb, List, [], map, length, take, drop, Some, None, Option, sym, refl, ap, ◌∙◌, arith, length-drop, drop_of_length-le, length-take, take-take, le-leb}
+use Rattle.std.proofs.Common.{◌≡◌, ℕ, ◌+◌, ◌-◌, ◌<◌, ◌≤◌, true, false, leb, List, [], map, length, take, drop, Some, Option, sym, refl, ap, ◌∙◌, arith, length-drop, drop_of_length-le, length-take, take-take, le-leb}
 use lib.ListN.{length-map}
 use borrow.Author.Tests.{lt-leb}
 use Rattle.record.proofs.Counting.{contributions_most}
 use Rattle.std.proofs.lemmas.List.{take-map, drop-map}
 use Rattle.scheme.specs.Pieces.{Indexed}
 use Rattle.model.specs.Jobs.{tried_in, tried_with}
-use Rattle.model.specs.Jobs as jobs
 use Rattle.model.specs.State.{Job, Phase, awaiting, Sent, Shards, with_phase}
 use Rattle.record.specs.Sound.{Sound}
 use Rattle.record.specs.Started.{started}

@@ -1,5 +1,5 @@
 -- What keeping a shard asks, and what it leaves. Assumes nothing.
-use Rattle.std.specs.Prelude.{◌≡◌, ℕ, ◌+◌, ◌*◌, ◌<◌, ◌≤◌, Bool, false, List, length, ◌≢◌, slice_index_or}
+use Rattle.std.specs.Prelude.{◌≡◌, ℕ, ◌+◌, ◌*◌, ◌<◌, ◌≤◌, false, List, length, ◌≢◌, slice_index_or}
 use Rattle.places.specs.Places.{held}
 use Rattle.record.specs.Sound.{Sound}
 use Rattle.record.specs.Views.{place_of}

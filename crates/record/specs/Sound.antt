@@ -2,7 +2,6 @@
 use Rattle.std.specs.Prelude.{◌≡◌, ℕ, ◌+◌, ◌<◌, ◌≤◌, Bool, true, false, cond, List, [], ◌∷◌, length, take, slice_index_or}
 use Rattle.std.specs.List.{AllByRecursion}
 use Rattle.record.specs.declared.record.Record.{Record}
-use Rattle.record.specs.declared.stored.Pending.{Pending}
 use Rattle.record.specs.declared.stored.Stored.{Stored}
 
 -- how many indices have contributed

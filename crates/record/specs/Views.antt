@@ -1,6 +1,5 @@
 -- What a record means: the model's record, with the shards' bytes and the blob where they lie. Assumes nothing.
 use Rattle.std.specs.Prelude.{ℕ, ◌+◌, ◌*◌, cond, List, map, take, drop, Some, None, Option}
-use Rattle.register.specs.declared.key.Key.{Key}
 use Rattle.places.specs.Places.{held}
 use Rattle.scheme.specs.Pieces.{Indexed}
 use Rattle.model.specs.State.{Job, Phase, awaiting, cached, Rec, Sent, Shards}

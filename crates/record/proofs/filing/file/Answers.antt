@@ -1,11 +1,9 @@
-use Rattle.std.proofs.Common.{◌≡◌, ◌≤◌, length, take, Err, sym, ap, ◌∙◌, arith}
+use Rattle.std.proofs.Common.{length, take, sym, ap, ◌∙◌}
 use Rattle.table.proofs.Carried.{put_present}
-use Rattle.table.specs.Answers.{inserts}
-use Rattle.table.specs.Table.{found}
 use Rattle.record.proofs.Refused.{turned_down}
 use Rattle.record.proofs.filing.file.Goals as goal
 
-pub returns-in-Err : goal.returns-in-Err
-returns-in-Err g c =
+pub returns-in-Err-clause-table : goal.returns-in-Err-clause-table
+returns-in-Err-clause-table g c =
     let p = turned_down c.args.count (length c.args.entries.now) _ c.in-Err.field-0 c.requires c.in-Err.ensures.answer in
-    record { table = ap (take c.args.count) c.in-Err.ensures.table ∙ sym (put_present g.Key.Ordered.order g.E.Entry.named c.args.entry (take c.args.count c.args.entries.now) p.0 p.1); count = (omega arith, omega arith) }
+    ap (take c.args.count) c.in-Err.ensures.table ∙ sym (put_present g.E.Key.Ordered.order g.E.Entry.named c.args.entry (take c.args.count c.args.entries.now) p.0 p.1)

@@ -1,4 +1,4 @@
-use Rattle.std.proofs.Common.{◌≡◌, ℕ, ◌+◌, ◌-◌, ◌≤◌, length, take, drop, refl, ap, ◌∙◌, arith, length-drop, length-take, rules}
+use Rattle.std.proofs.Common.{◌≡◌, ◌-◌, length, refl, ap, ◌∙◌, arith, length-drop, length-take, rules}
 use borrow.Rule.Slice.PartMut.{same_len_mid}
 use Rattle.table.specs.Table.{put}
 use Rattle.record.specs.Fields.{by_sender, sender_named}

@@ -1,5 +1,4 @@
-use Rattle.std.proofs.Common.{◌≡◌, ap, ◌∙◌, arith}
-use Rattle.record.proofs.Joined.{rest_alike}
+use Rattle.std.proofs.Common.{arith}
 use Rattle.record.proofs.Starting.{job_starts, nothing_cached, nothing_few, nothing_out, started-sound}
 use Rattle.record.proofs.record.Record.try_job.Goals as goal
 use Rattle.record.proofs.record.Record.try_job.Goals.{then-self-via-then-self, then-self-via-else-self+then-self-2, then-self-via-else-self+else-self-2+then-self-minimum}
