@@ -4,9 +4,9 @@ use lib.Seq.{take-append_seam}
 use Rattle.std.proofs.lemmas.Bool.{le-leb, leb-true}
 use Rattle.register.specs.Words.{word}
 use Rattle.block.specs.declared.head.Head.{Head}
-use Rattle.block.specs.Exact.{Head-form}
+use Rattle.block.specs.Exact.{HeadForm}
 use Rattle.block.specs.Heads.{head_length, head_of}
-use Rattle.block.specs.Written.{Bytes, Head-holds, head_bytes, number_bytes}
+use Rattle.block.specs.Written.{Bytes, HeadHolds, head_bytes, number_bytes}
 use Rattle.block.proofs.Told.{some_from}
 use Rattle.block.proofs.Numbers.{length_number, number_word, word_behind, word_low}
 
@@ -15,7 +15,7 @@ head_context context parent height rest =
     ap (take (length context)) (append_assoc (context ++ parent) (number_bytes 8 height) rest ∙ append_assoc context parent (number_bytes 8 height ++ rest))
     ∙ take-append_seam context (parent ++ (number_bytes 8 height ++ rest))
 
-module _ (context parent : List ℕ) (height : ℕ) (h : Head-holds context parent height) where
+module _ (context parent : List ℕ) (height : ℕ) (h : HeadHolds context parent height) where
   pub length-head : length (head_bytes context parent height) ≡ length context + 41
   length-head =
       let p = h.parent_long in
@@ -46,7 +46,7 @@ module _ (blob : List ℕ) (b : Bytes blob) (long : head_length blob ≤ length 
       let m : get_or blob 0 0 ≤ length (drop 1 blob) = simp length-drop (omega arith) in
       length-take-le (get_or blob 0 0) (drop 1 blob) m
 
-  pub front_holds : Head-holds context_in_front parent_in_front (word blob (get_or blob 0 0 + 33) 8)
+  pub front_holds : HeadHolds context_in_front parent_in_front (word blob (get_or blob 0 0 + 33) 8)
   unfolding parent_in_front
   front_holds =
       let m : 32 ≤ length (drop (1 + get_or blob 0 0) blob) = simp length-drop (omega arith) in
@@ -74,11 +74,11 @@ module _ (blob : List ℕ) (b : Bytes blob) (long : head_length blob ≤ length 
       ∙ ap (λ (xs : List ℕ). xs ++ take n (drop 1 blob) ++ take 32 (drop (1 + n) blob) ++ take 8 (drop (1 + n + 32) blob)) first
       ∙ ap (λ (xs : List ℕ). length (take n (drop 1 blob)) ∷ take n (drop 1 blob) ++ take 32 (drop (1 + n) blob) ++ xs) last
 
-pub head-written : (blob : List ℕ) (h : Head) → Bytes blob → head_of blob ≡ Some h → Head-form blob h
+pub head-written : (blob : List ℕ) (h : Head) → Bytes blob → head_of blob ≡ Some h → HeadForm blob h
 head-written blob h b e =
     let f = some_from (leb (head_length blob) (length blob)) _ h e in
     let long : head_length blob ≤ length blob = leb-true (head_length blob) (length blob) f.0 in
-    subst (Head-form blob) f.1 (record {
+    subst (HeadForm blob) f.1 (record {
       context = context_in_front blob b long;
       parent = parent_in_front blob b long;
       holds = front_holds blob b long;

@@ -4,24 +4,24 @@ use Rattle.block.specs.declared.head.Head.{Head}
 use Rattle.block.specs.declared.kind.Reading.{Reading}
 use Rattle.block.specs.Blobs.{fitted}
 use Rattle.block.specs.Heads.{head_of}
-use Rattle.block.specs.Written.{Bytes, Head-holds, head_bytes}
+use Rattle.block.specs.Written.{Bytes, HeadHolds, head_bytes}
 
 -- a head that is written is read back, whatever stands behind it
 abbrev pub HeadReadBack : Type 0
 HeadReadBack =
-    (context parent : List ℕ) (height : ℕ) (rest : List ℕ) → Head-holds context parent height →
+    (context parent : List ℕ) (height : ℕ) (rest : List ℕ) → HeadHolds context parent height →
     head_of (head_bytes context parent height ++ rest) ≡ Some (record { context_len = length context; height = record { 0 = height } })
 
 -- the front of a blob is the written form of some head
-pub record Head-form (blob : List ℕ) (h : Head) : Type 0 where
+pub record HeadForm (blob : List ℕ) (h : Head) : Type 0 where
   pub context : List ℕ
   pub parent : List ℕ
-  pub holds : Head-holds context parent h.height.0
+  pub holds : HeadHolds context parent h.height.0
   pub form : take (h.context_len + 41) blob ≡ head_bytes context parent h.height.0
 
 -- a head that is read was written
 abbrev pub HeadWasWritten : Type 0
-HeadWasWritten = (blob : List ℕ) (h : Head) → Bytes blob → head_of blob ≡ Some h → Head-form blob h
+HeadWasWritten = (blob : List ℕ) (h : Head) → Bytes blob → head_of blob ≡ Some h → HeadForm blob h
 
 -- a blob that fits a commitment is its block with the commitment's config behind it
 abbrev pub FittedWhole : Type 0

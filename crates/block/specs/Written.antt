@@ -15,7 +15,7 @@ abbrev pub head_bytes : List ℕ → List ℕ → ℕ → List ℕ
 head_bytes context parent height = length context ∷ context ++ parent ++ number_bytes 8 height
 
 -- what has a written form
-pub record Head-holds (context parent : List ℕ) (height : ℕ) : Type 0 where
+pub record HeadHolds (context parent : List ℕ) (height : ℕ) : Type 0 where
   pub context_short : length context < 256
   pub parent_long : length parent ≡ 32
   pub height_low : height < 2 ^ 64

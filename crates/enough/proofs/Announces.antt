@@ -17,7 +17,7 @@ use Rattle.model.specs.declared.answer.Outcome.TheVariants.{Held}
 use Rattle.runs.proofs.Boxes.{left-filled}
 use Rattle.runs.proofs.Entries.{found_key, trimmed_ascends, trimmed-look}
 use Rattle.runs.proofs.Rolls.{advanced_entry, taken_entry}
-use Rattle.runs.proofs.Ways.{Announced-ways, box_ways}
+use Rattle.runs.proofs.Ways.{AnnouncedWays, box_ways}
 use Rattle.enough.proofs.Draws.{Grown, known}
 use Rattle.enough.proofs.Live.{Live, entered_live, new_grown, next}
 use Rattle.enough.proofs.Moves.{Fine, For, OwnBoxes, Silent, box_grown, elsewhere, event, let_in, let_in_other, placed, placed_other}
@@ -63,7 +63,7 @@ module _ (limits : Limits) (m : Meaning) (a : Assignment) (c : List ℕ) (ep : �
         (λ old_ep _ live. goes r (advanced i) (answered Held i.reports i.action)
         (λ live. let g = box_grown limits m a c ep Hand roster call s es agrees boxes live.lost x ks named (larger_epoch r.round round same ∙ old_ep) known live.sound live.settled in record { sound = g.sound; settled = g.settled; grows = g.grows }) live))
 
-    pub announced_here : is_commitment c ≡ true → Announced-ways limits m roster s FineHere c round
+    pub announced_here : is_commitment c ≡ true → AnnouncedWays limits m roster s FineHere c round
     announced_here proper = record {
       still = λ o _. still o;
       stood = λ o r held at same. placed limits m a c ep Hand roster call s es up r (observes limits m roster round r) s.peers (answered o [] None) at (found_key filed_under c s.records r at) (larger_epoch r.round round same) boxes
@@ -73,20 +73,20 @@ module _ (limits : Limits) (m : Meaning) (a : Assignment) (c : List ℕ) (ep : �
       new = λ leader none some _.
           let x = new_record c round leader in
           box_ways limits m roster s FineHere (λ y. entered y s.records) x
-          (λ _. let_in limits m a c ep Hand roster call s es up x s.peers (answered Held [] None) none refl boxes (λ in-ep. entered_live limits m a c ep Hand x x (new_grown limits m a c ep Hand round leader proper) proper (rising some in-ep)))
+          (λ _. let_in limits m a c ep Hand roster call s es up x s.peers (answered Held [] None) none refl boxes (λ in_epoch_now. entered_live limits m a c ep Hand x x (new_grown limits m a c ep Hand round leader proper) proper (rising some in_epoch_now)))
           (λ ks known.
           let i = all_taken limits m roster ks x.round.epoch.0 (began x) (all_drawn (wants limits m roster ks x) s.peers) in
           let entry = advanced_entry i ∙ taken_entry limits m roster ks x.round.epoch.0 (began x) (all_drawn (wants limits m roster ks x) s.peers) in
           let g = new_grown limits m a c ep Hand round leader proper in
           let_in limits m a c ep Hand roster call s es up (advanced i) (all_left (wants limits m roster ks x) s.peers) (answered Held i.reports i.action) none (ap (λ n. n.commitment) entry)
           (left-filled (For c Hand) (wants limits m roster ks x) s.peers boxes)
-          (λ in-ep. entered_live limits m a c ep Hand x (advanced i) (box_grown limits m a c ep Hand roster call s es agrees boxes [] x ks refl (sym (ap (λ n. n.round.epoch.0) entry) ∙ in-ep) known g.sound g.settled) proper (rising some (sym (ap (λ n. n.round.epoch.0) entry) ∙ in-ep))));
+          (λ in_epoch_now. entered_live limits m a c ep Hand x (advanced i) (box_grown limits m a c ep Hand roster call s es agrees boxes [] x ks refl (sym (ap (λ n. n.round.epoch.0) entry) ∙ in_epoch_now) known g.sound g.settled) proper (rising some (sym (ap (λ n. n.round.epoch.0) entry) ∙ in_epoch_now))));
     }
       where
         rising : is_some (roster.keys round.epoch.0) ≡ true → round.epoch.0 ≡ ep → ascending (a.keys ep) ≡ true
-        rising some in-ep = let k = some_of (roster.keys round.epoch.0) some in (known a ep roster k.0 agrees (ap roster.keys (sym in-ep) ∙ k.1)).up
+        rising some in_epoch_now = let k = some_of (roster.keys round.epoch.0) some in (known a ep roster k.0 agrees (ap roster.keys (sym in_epoch_now) ∙ k.1)).up
 
-    pub announced_there : (d : List ℕ) → (d ≡ c → ⊥) → Announced-ways limits m roster s FineHere d round
+    pub announced_there : (d : List ℕ) → (d ≡ c → ⊥) → AnnouncedWays limits m roster s FineHere d round
     announced_there d other = record {
       still = λ o _. still o;
       stood = λ o r held at same. placed_other limits m a c ep Hand roster call s es up (observes limits m roster round r) s.peers (answered o [] None) (not_here r at) boxes (silent _);
@@ -121,5 +121,5 @@ module _ (limits : Limits) (m : Meaning) (a : Assignment) (c : List ℕ) (ep : �
   trimmed_fine t fine = record {
     boxes = fine.boxes;
     ascend = trimmed_ascends round_of filed_under limits.window t.state.records fine.ascend;
-    moved = λ r at in-ep. fine.moved r (trimmed-look round_of filed_under limits.window c t.state.records r fine.ascend at) in-ep;
+    moved = λ r at in_epoch_now. fine.moved r (trimmed-look round_of filed_under limits.window c t.state.records r fine.ascend at) in_epoch_now;
   }

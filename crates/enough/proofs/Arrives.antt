@@ -58,13 +58,13 @@ module _ (limits : Limits) (m : Meaning) (a : Assignment) (c : List ℕ) (ep : �
     unchanged t own rise same gives = record {
       boxes = own;
       ascend = rise;
-      moved = λ r at in-ep.
+      moved = λ r at in_epoch_now.
           subst (λ o. Moved limits m a c ep Hand roster bring s es o t.answer r) (sym at ∙ same) (
-            in-ep,
+            in_epoch_now,
             λ knows live. stayed limits m a c ep Hand roster bring s es t.answer r live (λ is. absurd is)
                 (λ k y counts brings at_place good.
                 subst (λ y. GivenTo r y.index) brings.2
-                (gives r (sym same ∙ at) in-ep knows (ap (λ k. index k (a.keys ep)) brings.1 ∙ at_place ∙ ap (λ y. Some y.index) (sym brings.2)))),
+                (gives r (sym same ∙ at) in_epoch_now knows (ap (λ k. index k (a.keys ep)) brings.1 ∙ at_place ∙ ap (λ y. Some y.index) (sym brings.2)))),
           );
     }
 
@@ -82,14 +82,14 @@ module _ (limits : Limits) (m : Meaning) (a : Assignment) (c : List ℕ) (ep : �
         let entry = advanced_entry i ∙ intake_entry m limits.blob ks (roster.own r.round.epoch.0) peer x r in
         let answer = answered (cond i.gained Gain NoGain) i.reports i.action in
         placed limits m a c ep Hand roster bring s es up r (advanced i) s.peers answer at (ap (λ n. n.commitment) entry ∙ named) (ap (λ n. n.round.epoch.0) entry) boxes
-        (λ in-ep _ live.
-        let k = known a ep roster ks agrees (ap roster.keys (sym in-ep) ∙ knows) in
+        (λ in_epoch_now _ live.
+        let k = known a ep roster ks agrees (ap roster.keys (sym in_epoch_now) ∙ knows) in
         let j = taken limits m roster ks ep (began r) (record { sender = peer; shard = x }) in
         let row = row_all limits m a c ep Hand roster ks k live.lost r (began r) (record { sender = peer; shard = x } ∷ []) (handed, tt) (row-began limits m a c ep Hand live.lost r named live.sound) in
         let one = took limits m a c ep Hand roster ks k live.lost peer x r handed named live.sound in
         let grown : Grown limits m a c ep Hand live.lost r (advanced j) = advanced_grown limits m a c ep Hand live.lost r j live.settled row in
         let gets : index peer (a.keys ep) ≡ Some x.index → good_here limits m a c ep Hand x ≡ true → GivenTo (advanced j) x.index = λ place good. advanced-gives j x.index (one.gets place good) in
-        let both = subst (λ n. Grown limits m a c ep Hand live.lost r (advanced (taken limits m roster ks n (began r) (record { sender = peer; shard = x }))) × (index peer (a.keys ep) ≡ Some x.index → good_here limits m a c ep Hand x ≡ true → GivenTo (advanced (taken limits m roster ks n (began r) (record { sender = peer; shard = x }))) x.index)) (sym in-ep) (grown, gets) in
+        let both = subst (λ n. Grown limits m a c ep Hand live.lost r (advanced (taken limits m roster ks n (began r) (record { sender = peer; shard = x }))) × (index peer (a.keys ep) ≡ Some x.index → good_here limits m a c ep Hand x ≡ true → GivenTo (advanced (taken limits m roster ks n (began r) (record { sender = peer; shard = x }))) x.index)) (sym in_epoch_now) (grown, gets) in
         next limits m a c ep Hand es (event limits m a c ep Hand roster bring s es answer) r (advanced i) live live.lost both.0 live.losses (omega arith) (λ is. absurd is)
         (λ k' y counts brings place good.
         subst (λ y. GivenTo (advanced i) y.index) brings.2
@@ -107,15 +107,15 @@ module _ (limits : Limits) (m : Meaning) (a : Assignment) (c : List ℕ) (ep : �
         (λ _.
         by_option (λ o. FineHere (in_epoch limits m roster o (known_shard limits m roster peer x r s) s)) (roster.keys r.round.epoch.0)
         (λ none. unchanged (stays limits m roster NoEpoch s) boxes up refl
-        (λ q here in-ep knows _.
+        (λ q here in_epoch_now knows _.
         let same = some_same r q (sym at ∙ here) in
-        absurd (both_ways (is_some (roster.keys ep)) (ap is_some (ap roster.keys (sym (ap (λ q. q.round.epoch.0) same ∙ in-ep)) ∙ none)) knows)))
+        absurd (both_ways (is_some (roster.keys ep)) (ap is_some (ap roster.keys (sym (ap (λ q. q.round.epoch.0) same ∙ in_epoch_now)) ∙ none)) knows)))
         (λ ks knows.
         cond_both (too_early limits m roster r.leader (index peer ks) x.index) (boxes_shard limits m roster r.commitment peer x s) (takes_shard limits m roster ks peer x r s) FineHere
         (λ early. subst (λ d. FineHere (boxes_shard limits m roster d peer x s)) (sym (found_key filed_under c s.records r at))
-        (boxing (λ q here in-ep _ place.
+        (boxing (λ q here in_epoch_now _ place.
         let same = some_same r q (sym at ∙ here) in
-        let k = known a ep roster ks agrees (ap roster.keys (sym (ap (λ q. q.round.epoch.0) same ∙ in-ep)) ∙ knows) in
+        let k = known a ep roster ks agrees (ap roster.keys (sym (ap (λ q. q.round.epoch.0) same ∙ in_epoch_now)) ∙ knows) in
         absurd (both_ways (too_early limits m roster r.leader (index peer ks) x.index) (timely r.leader (index peer ks) (ap (index peer) k.keys ∙ place)) early))))
         (λ _. taking r ks at knows))))
 

@@ -37,11 +37,11 @@ module _ (limits : Limits) (m : Meaning) (a : Assignment) (c : List ℕ) (ep : �
       go None same left = record {
         boxes = boxes;
         ascend = (entry_laws filed_under).without_ascends c s.records up;
-        moved = λ q here in-ep. never_some q _ (sym ((entry_laws filed_under).without_gone c s.records up) ∙ here);
+        moved = λ q here in_epoch_now. never_some q _ (sym ((entry_laws filed_under).without_gone c s.records up) ∙ here);
       }
       go (Some x) same left =
           placed limits m a c ep Hand roster (completion c rooms) s es up r x s.peers answer at same.0 same.1 boxes
-          (λ in-ep _ live.
+          (λ in_epoch_now _ live.
           let l = left live in
           next limits m a c ep Hand es (event limits m a c ep Hand roster (completion c rooms) s es answer) r x live l.more (record { sound = l.sound; settled = l.settled; grows = l.grows }) l.losses l.longer
           (λ _. l.number) (λ k y counts brings. absurd brings))

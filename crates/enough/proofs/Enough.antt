@@ -13,7 +13,7 @@ use Rattle.model.specs.Histories.{Agrees, Assignment, Entry, Event, HandedIn, Le
 use Rattle.model.specs.Intake.{index_of}
 use Rattle.model.specs.Jobs.{completes, job_in, passing, shard_of}
 use Rattle.model.specs.Meaning.{Meaning, Roster, good_for, minimum_of, rebuilt_for}
-use Rattle.model.specs.Promises.{CompletesWell, Completing, EndedAbove, Enough, EnoughBringTheBlock, Good-shard, Goes_on, Hands-in, Sufficient, asked}
+use Rattle.model.specs.Promises.{CompletesWell, Completing, EndedAbove, Enough, EnoughBringTheBlock, GoodShard, Goes_on, HandsIn, Sufficient, asked}
 use Rattle.model.specs.State.{Job, Limits, Phase, awaiting, cached, Rec, Shards, State, filed_under, record_of}
 use Rattle.model.specs.Steps.{block_given, completed_by, completion_by, completion_of, step, unless_refused}
 use Rattle.model.specs.declared.answer.Refusal.{Refusal}
@@ -48,7 +48,7 @@ module _ (limits : Limits) (m : Meaning) (a : Assignment) (h : List Event) (c : 
   Hand = HandedIn h c
 
   abbrev Hands : ℕ → Type 0
-  Hands = Hands-in limits m a h c keys
+  Hands = HandsIn limits m a h c keys
 
   abbrev CheckedHere : Indexed → Type 0
   CheckedHere = Checked good (minimum_of c) keys own Hand
@@ -156,7 +156,7 @@ module _ (limits : Limits) (m : Meaning) (a : Assignment) (h : List Event) (c : 
               let x = tally_append index_of i j.checked kept in
               let y = sorted_out good i j.pending in
               omega arith);
-          each = All-weaker CheckedHere (Good-shard limits m a h c)
+          each = All-weaker CheckedHere (GoodShard limits m a h c)
               (λ x ok. record { good = ok.passes; sender = ok.key; handed = ok.handed }) (j.checked ++ kept)
               (All-append CheckedHere j.checked kept jobbed.0
               (good_checked good (minimum_of c) keys own Hand j.pending jobbed.1));

@@ -67,9 +67,9 @@ module _ (limits : Limits) (m : Meaning) (a : Assignment) (c : List ℕ) (ep : �
   elsewhere t silent boxes up same = record {
     boxes = boxes;
     ascend = up;
-    moved = λ r at in-ep.
+    moved = λ r at in_epoch_now.
         subst (λ o. Moved o t.answer r) (sym at ∙ same)
-        (in-ep, λ _ live. stayed t.answer r live silent.ends (λ k x counts brings. absurd (silent.brings k x counts brings)));
+        (in_epoch_now, λ _ live. stayed t.answer r live silent.ends (λ k x counts brings. absurd (silent.brings k x counts brings)));
   }
 
   module _ (up : Ascends order filed_under s.records) where
@@ -83,9 +83,9 @@ module _ (limits : Limits) (m : Meaning) (a : Assignment) (c : List ℕ) (ep : �
         record {
           boxes = boxes;
           ascend = replaced_ascends filed_under x s.records up;
-          moved = λ r now in-ep.
+          moved = λ r now in_epoch_now.
               let is = some_same x r (sym found ∙ now) in
-              let old_ep : old.round.epoch.0 ≡ ep = sym same ∙ ap (λ r. r.round.epoch.0) is ∙ in-ep in
+              let old_ep : old.round.epoch.0 ≡ ep = sym same ∙ ap (λ r. r.round.epoch.0) is ∙ in_epoch_now in
               subst (λ o. Moved o answer r) (sym at) (old_ep, λ known live. subst (λ r. Live limits m a c ep Hand (event answer ∷ es) r) is (goes old_ep known live));
         }
 
@@ -95,13 +95,13 @@ module _ (limits : Limits) (m : Meaning) (a : Assignment) (c : List ℕ) (ep : �
         Fine (record { state = record { records = entered x s.records; peers = ps }; answer = answer })
     let_in x ps answer at named boxes goes =
         let there : look order filed_under x.commitment s.records ≡ None = subst (λ d. look order filed_under d s.records ≡ None) (sym named) at in
-        let found : look order filed_under c (entered x s.records) ≡ Some x = subst (λ d. look order filed_under d (entered x s.records) ≡ Some x) named ((entry_laws filed_under).put-found x s.records there) in
+        let found : look order filed_under c (entered x s.records) ≡ Some x = subst (λ d. look order filed_under d (entered x s.records) ≡ Some x) named ((entry_laws filed_under).put_found x s.records there) in
         record {
           boxes = boxes;
           ascend = (entry_laws filed_under).put_ascends x s.records up;
-          moved = λ r now in-ep.
+          moved = λ r now in_epoch_now.
               let is = some_same x r (sym found ∙ now) in
-              subst (λ o. Moved o answer r) (sym at) (subst (λ r. Live limits m a c ep Hand [] r) is (goes (ap (λ r. r.round.epoch.0) is ∙ in-ep)));
+              subst (λ o. Moved o answer r) (sym at) (subst (λ r. Live limits m a c ep Hand [] r) is (goes (ap (λ r. r.round.epoch.0) is ∙ in_epoch_now)));
         }
 
     -- a record of another commitment, replaced or let in
@@ -118,10 +118,10 @@ module _ (limits : Limits) (m : Meaning) (a : Assignment) (c : List ℕ) (ep : �
   pub box_grown : Agrees a roster → OwnBoxes c Hand s.peers → (lost : List ℕ) (x : Rec) (ks : List (List ℕ)) → x.commitment ≡ c → x.round.epoch.0 ≡ ep → roster.keys x.round.epoch.0 ≡ Some ks →
       SoundHere limits m a c ep Hand lost x → Settled (minimum_of c) x.phase →
       Grown limits m a c ep Hand lost x (advanced (all_taken limits m roster ks x.round.epoch.0 (began x) (all_drawn (wants limits m roster ks x) s.peers)))
-  box_grown agrees boxes lost x ks named in-ep at sound settled =
-      let knows = known a ep roster ks agrees (ap roster.keys (sym in-ep) ∙ at) in
+  box_grown agrees boxes lost x ks named in_epoch_now at sound settled =
+      let knows = known a ep roster ks agrees (ap roster.keys (sym in_epoch_now) ∙ at) in
       let drawn = All-weaker (λ p. For c Hand x.commitment p.sender p.shard) (λ p. Hand p.sender p.shard) (λ p handed. handed named) (all_drawn (wants limits m roster ks x) s.peers)
       (drawn_brought (For c Hand) x.commitment (is_some x.leader) ks s.peers boxes) in
       let row = row_all limits m a c ep Hand roster ks knows lost x (began x) (all_drawn (wants limits m roster ks x) s.peers) drawn (row-began limits m a c ep Hand lost x named sound) in
-      subst (λ n. Grown limits m a c ep Hand lost x (advanced (all_taken limits m roster ks n (began x) (all_drawn (wants limits m roster ks x) s.peers)))) (sym in-ep)
+      subst (λ n. Grown limits m a c ep Hand lost x (advanced (all_taken limits m roster ks n (began x) (all_drawn (wants limits m roster ks x) s.peers)))) (sym in_epoch_now)
       (advanced_grown limits m a c ep Hand lost x (all_taken limits m roster ks ep (began x) (all_drawn (wants limits m roster ks x) s.peers)) settled row)

@@ -7,7 +7,7 @@ use Rattle.model.specs.Histories.{Agrees, HandedIn, Leads}
 use Rattle.model.specs.Intake.{intake}
 use Rattle.model.specs.Jobs.{completes, tries}
 use Rattle.model.specs.Meaning.{good_for}
-use Rattle.model.specs.Promises.{Opens-to-block, Sufficient}
+use Rattle.model.specs.Promises.{OpensToBlock, Sufficient}
 use Rattle.model.specs.State.{State, fresh}
 use Rattle.model.specs.Steps.{completion_of, discovery_of, shard_of, step}
 use Rattle.enough.specs.Example
@@ -51,7 +51,7 @@ either k x =
     (⊎_elim (λ h. inr (ap (λ x. x.bytes) h.1.2)) (⊎_elim (λ h. inl h.1.2) (⊎_elim (λ h. absurd h.1) (λ h. absurd h)))))))
 
 opens : (shards : List Indexed) → Sufficient Example.limits Example.meaning Example.assignment Example.history Example.commitment shards →
-    Opens-to-block Example.limits Example.meaning Example.assignment Example.history Example.commitment shards
+    OpensToBlock Example.limits Example.meaning Example.assignment Example.history Example.commitment shards
 opens [] s = absurd (omega (arith, s.many))
 opens (x ∷ xs) s =
     let passes = s.each.0.good in

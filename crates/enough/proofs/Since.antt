@@ -118,11 +118,11 @@ module _ (limits : Limits) (m : Meaning) (a : Assignment) (c : List ℕ) (ep : �
       let now = subst (Fine limits m a c ep Hand e.roster e.call before (since limits.window c h)) l.3 fine in
       record {
         boxes = now.boxes;
-        live = λ r at in-ep.
+        live = λ r at in_epoch_now.
             subst (λ o. AllByRecursion (λ x. is_some (x.roster.keys ep) ≡ true) (cond (is_some o) (e ∷ since limits.window c h) []) → Live limits m a c ep Hand (cond (is_some o) (e ∷ since limits.window c h) []) r) (sym (roll_record limits m a h before l.1 c))
             (by_option (λ o. Moved limits m a c ep Hand e.roster e.call before (since limits.window c h) o e.answer r →
             AllByRecursion (λ x. is_some (x.roster.keys ep) ≡ true) (cond (is_some (option_map entry_of o)) (e ∷ since limits.window c h) []) → Live limits m a c ep Hand (cond (is_some (option_map entry_of o)) (e ∷ since limits.window c h) []) r) (record_of c before)
             (λ _ live _. live)
             (λ q was moved known. moved.1 known.0 (old.live q was moved.0 known.1))
-            (now.moved r at in-ep));
+            (now.moved r at in_epoch_now));
       }

@@ -4,7 +4,7 @@ use Rattle.scheme.specs.Pieces.{Indexed}
 use Rattle.model.specs.Intake as model
 use Rattle.model.specs.Intake.{Action, broadcast, ready, assigned, owned, stray}
 use Rattle.record.specs.Joins.{Elsewhere}
-use Rattle.record.specs.Sound.{Same-job, Sound}
+use Rattle.record.specs.Sound.{SameJob, Sound}
 use Rattle.record.specs.Views.{Memory, view}
 use Rattle.record.specs.declared.record.Record.{Record}
 use Rattle.intake.specs.declared.class.Class.{Class}
@@ -42,7 +42,7 @@ taken_as at c slot r t s =
 -- the record can be read and has room as before; its job and other slots' places are as they were
 pub record Kept (width slot : ℕ) (r s : Record) (before after : List ℕ) : Type 0 where
   pub sound : Sound width s
-  pub job : Same-job r s
+  pub job : SameJob r s
   pub elsewhere : Elsewhere width slot before after
 
 -- intake that may have ended, else goes on

@@ -4,7 +4,7 @@ ghost use Rattle.intake.specs.Classes.{Kept, taken_as, unless_settled};
 ghost use Rattle.model.specs.Intake.{Taken as ModelTaken, arrives, assigned as toAssigned, checks, dropped, from_member, owned as toOwned, received_at, unless_contributed, unless_received};
 ghost use Rattle.model.specs.Meaning.{good_for};
 ghost use Rattle.model.specs.State.{awaiting};
-ghost use Rattle.record.specs.Joins.{Open-to, Placed};
+ghost use Rattle.record.specs.Joins.{OpenTo, Placed};
 ghost use Rattle.record.specs.Sound.{Sound};
 ghost use Rattle.record.specs.Views.{memory, shards_of, view};
 ghost use Rattle.scheme.specs.Pieces.{indexed};
@@ -56,7 +56,7 @@ pub fn check_assigned<N: Node>(
     shard: Piece<'_>,
 ) -> Taken
     requires placed { Placed home.width home.slot shards.old }
-    requires fits { Open-to home.width rec.old shard.index shard.bytes.now }
+    requires fits { OpenTo home.width rec.old shard.index shard.bytes.now }
     ensures takes { (size : ℕ) (blobs : List ℕ) → taken_as (memory home.entry.width shards.new size blobs) home.entry.commitment.now.bytes home.entry.slot rec.new result (indexed shard.entry) ≡ checks (good_for (N.Node.meaning node.now) home.entry.limit home.entry.commitment.now.bytes (indexed shard.entry)) own (indexed shard.entry) (view (memory home.entry.width shards.old size blobs) home.entry.commitment.now.bytes home.entry.slot rec.old) }
     ensures kept { Kept home.entry.width home.entry.slot rec.old rec.new shards.old shards.new }
 {

@@ -2,7 +2,7 @@
 use Rattle.std.specs.Prelude.{◌≡◌, ℕ, ◌^◌, ◌<◌, List, [], ◌++◌, length, take, Some, fold, slice_index_or}
 use Rattle.std.specs.List.{flat_map}
 use Rattle.block.specs.Blobs.{context_in}
-use Rattle.block.specs.Written.{Bytes, Head-holds, head_bytes, number_bytes, sized_bytes}
+use Rattle.block.specs.Written.{Bytes, HeadHolds, head_bytes, number_bytes, sized_bytes}
 use Rattle.block.specs.declared.kind.Reading.{Reading}
 use Rattle.listed.specs.Listeds.{listed_reads}
 
@@ -21,8 +21,8 @@ abbrev pub EntriesShort : List (List ℕ) → Type 0
 EntriesShort entries = (i : ℕ) → length (slice_index_or entries i []) < 2 ^ 16
 
 -- what has a written form
-pub record Listed-holds (context parent : List ℕ) (height : ℕ) (entries : List (List ℕ)) : Type 0 where
-  pub head : Head-holds context parent height
+pub record ListedHolds (context parent : List ℕ) (height : ℕ) (entries : List (List ℕ)) : Type 0 where
+  pub head : HeadHolds context parent height
   pub few : length entries < 2 ^ 16
   pub short : EntriesShort entries
 
@@ -39,20 +39,20 @@ listed_reading digest context parent height entries =
 -- a block that is written is read back, and its context found, whatever stands behind it
 abbrev pub ListedReadBack : Type 0
 ListedReadBack =
-    (digest : List ℕ → List ℕ) (context parent : List ℕ) (height : ℕ) (entries : List (List ℕ)) (rest : List ℕ) → Listed-holds context parent height entries →
+    (digest : List ℕ → List ℕ) (context parent : List ℕ) (height : ℕ) (entries : List (List ℕ)) (rest : List ℕ) → ListedHolds context parent height entries →
     (listed_reads digest (listed_bytes context parent height entries ++ rest) ≡ Some (listed_reading digest context parent height entries))
     × (context_in (listed_bytes context parent height entries ++ rest) (listed_reading digest context parent height entries) ≡ context)
 
 -- the front of a blob is the written form of some block
-pub record Listed-form (blob : List ℕ) (len : ℕ) : Type 0 where
+pub record ListedForm (blob : List ℕ) (len : ℕ) : Type 0 where
   pub context : List ℕ
   pub parent : List ℕ
   pub height : ℕ
   pub entries : List (List ℕ)
-  pub holds : Listed-holds context parent height entries
+  pub holds : ListedHolds context parent height entries
   pub form : take len blob ≡ listed_bytes context parent height entries
 
 -- a block that is read was written
 abbrev pub ListedWasWritten : Type 0
 ListedWasWritten =
-    (digest : List ℕ → List ℕ) (blob : List ℕ) (r : Reading) → Bytes blob → listed_reads digest blob ≡ Some r → Listed-form blob r.len
+    (digest : List ℕ → List ℕ) (blob : List ℕ) (r : Reading) → Bytes blob → listed_reads digest blob ≡ Some r → ListedForm blob r.len

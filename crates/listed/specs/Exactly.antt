@@ -17,7 +17,7 @@ use Rattle.block.specs.Heads.{head_length}
 use Rattle.block.specs.Readings.{Alone}
 use Rattle.block.specs.Written.{Bytes, head_bytes, number_bytes, sized_bytes}
 use Rattle.block.specs.declared.kind.Reading.{Reading}
-use Rattle.listed.specs.Exact.{EntriesShort, Listed-form, Listed-holds, listed_bytes, listed_digest, listed_reading}
+use Rattle.listed.specs.Exact.{EntriesShort, ListedForm, ListedHolds, listed_bytes, listed_digest, listed_reading}
 use Rattle.listed.specs.Listeds.{entry_walked, listed_ends, listed_reads, onward, walk_start, walked}
 use Rattle.listed.specs.declared.walk.Walk.{Walk}
 
@@ -55,7 +55,7 @@ module _ (digest : List ℕ → List ℕ) where
       ∙ entries_read xs (front ++ sized_bytes x) rest (taking d x) (λ i. h (suc i))
       ∙ ap (λ (ys : List ℕ). Some (walk_at (length ys) (fold taking d (x ∷ xs)))) (append_assoc front (sized_bytes x) more)
 
-module _ (digest : List ℕ → List ℕ) (context parent : List ℕ) (height : ℕ) (entries : List (List ℕ)) (rest : List ℕ) (h : Listed-holds context parent height entries) where
+module _ (digest : List ℕ → List ℕ) (context parent : List ℕ) (height : ℕ) (entries : List (List ℕ)) (rest : List ℕ) (h : ListedHolds context parent height entries) where
   abbrev head : List ℕ
   head = head_bytes context parent height
 
@@ -168,13 +168,13 @@ module _ (digest : List ℕ → List ℕ) (blob : List ℕ) (b : Bytes blob) whe
       let all : take j blob ≡ front ++ (number_bytes 2 (length run.entries) ++ body) = run.form ∙ ap (λ (xs : List ℕ). xs ++ body) two ∙ append_assoc front (number_bytes 2 (length run.entries)) body in
       all ∙ ap (λ (xs : List ℕ). xs ++ (number_bytes 2 (length run.entries) ++ body)) (front_form blob b long)
 
-  pub was_written : (r : Reading) → listed_reads digest blob ≡ Some r → Listed-form blob r.len
+  pub was_written : (r : Reading) → listed_reads digest blob ≡ Some r → ListedForm blob r.len
   was_written r e =
       let m = mapped_from (nat_le (head_length blob + 2) (length blob)) (listed_ends blob) (walked digest blob (word blob (head_length blob) 2) (walk_start digest blob)) r e in
       let there : head_length blob + 2 ≤ length blob = leb-true (head_length blob + 2) (length blob) m.0 in
       let long : head_length blob ≤ length blob = omega arith in
       let run = walked_run (word blob (head_length blob) 2) (walk_start digest blob) m.1.0 m.1.1 in
-      subst (λ (q : Reading). Listed-form blob q.len) m.1.2 (record {
+      subst (λ (q : Reading). ListedForm blob q.len) m.1.2 (record {
         context = context_in_front blob b long;
         parent = parent_in_front blob b long;
         height = word blob (slice_index blob 0 + 33) 8;

@@ -88,13 +88,13 @@ Spares k (told b) = Unit {0}
 
 module _ (limits : Limits) (m : Meaning) (a : Assignment) (h : List Event) where
   -- some peer handed the shard in for the commitment, and it is good
-  pub record Good-shard (c : List ℕ) (s : Indexed) : Type 0 where
+  pub record GoodShard (c : List ℕ) (s : Indexed) : Type 0 where
     pub good : good_for m limits.blob c s ≡ true
     pub sender : List ℕ
     pub handed : HandedIn h c sender s
 
   -- shards that open to the block of the commitment
-  pub record Opens-to-block (c : List ℕ) (shards : List Indexed) : Type 0 where
+  pub record OpensToBlock (c : List ℕ) (shards : List Indexed) : Type 0 where
     pub blob : List ℕ
     pub reading : Reading
     pub opens : opened_for m limits.blob c shards ≡ Ok blob
@@ -104,10 +104,10 @@ module _ (limits : Limits) (m : Meaning) (a : Assignment) (h : List Event) where
   pub record Sufficient (c : List ℕ) (shards : List Indexed) : Type 0 where
     pub many : minimum_of c ≤ length shards
     pub distinct : Distinct (map index_of shards)
-    pub each : AllByRecursion (Good-shard c) shards
+    pub each : AllByRecursion (GoodShard c) shards
 
   -- the participant at this place handed in a good shard since the admission, and never another one there
-  pub record Hands-in (c : List ℕ) (keys : List (List ℕ)) (place : ℕ) : Type 0 where
+  pub record HandsIn (c : List ℕ) (keys : List (List ℕ)) (place : ℕ) : Type 0 where
     pub member : place < length keys
     pub bytes : List ℕ
     pub good : good_for m limits.blob c (record { index = place; bytes = bytes }) ≡ true
@@ -119,9 +119,9 @@ module _ (limits : Limits) (m : Meaning) (a : Assignment) (h : List Event) where
     pub held : on_roll c (roll limits.window h) ≡ Some entry
     pub distinct : Distinct places
     pub many : minimum_of c ≤ length places
-    pub each : AllByRecursion (Hands-in c (a.keys entry.round.epoch.0)) places
+    pub each : AllByRecursion (HandsIn c (a.keys entry.round.epoch.0)) places
     pub known : AllByRecursion (λ e. is_some (e.roster.keys entry.round.epoch.0) ≡ true) (since limits.window c h)
-    pub opens : (shards : List Indexed) → Sufficient c shards → Opens-to-block c shards
+    pub opens : (shards : List Indexed) → Sufficient c shards → OpensToBlock c shards
 
   abbrev pub asked : Rooms
   asked = record { reports = 512; broadcast = limits.shard }
@@ -141,13 +141,13 @@ module _ (limits : Limits) (m : Meaning) (a : Assignment) (h : List Event) where
     pub once : (c : List ℕ) (e f : ℕ) → Announced h c e → Announced h c f → e ≡ f
     pub good : (c : List ℕ) (e : ℕ) (s : Indexed) → Announced h c e → HandedIn h c k s → good_for m limits.blob c s ≡ true
     pub placed : (c : List ℕ) (e : ℕ) (s : Indexed) → Announced h c e → HandedIn h c k s → (index k (a.keys e) ≡ Some s.index) ⊎ (a.own e ≡ Some s.index)
-    pub alike : (c : List ℕ) (s t : Indexed) → Good-shard c s → Good-shard c t → s.index ≡ t.index → s ≡ t
+    pub alike : (c : List ℕ) (s t : Indexed) → GoodShard c s → GoodShard c t → s.index ≡ t.index → s ≡ t
 
   abbrev pub NobodyWithoutCause : Type 0
   NobodyWithoutCause = (k : List ℕ) → Blameless k → AllByRecursion (λ e. Spares k e.answer) h
 
   -- the block is what good shards, each handed in, open to with the commitment's config behind it, and fits the commitment
-  pub record Handed-in-block (c block : List ℕ) : Type 0 where
+  pub record HandedInBlock (c block : List ℕ) : Type 0 where
     pub entry : Entry
     pub held : on_roll c (roll limits.window h) ≡ Some entry
     pub shards : List Indexed
@@ -162,7 +162,7 @@ module _ (limits : Limits) (m : Meaning) (a : Assignment) (h : List Event) where
 
   -- what a look-up gives
   abbrev pub Gives : Call → Answer → Type 0
-  Gives (block_look_up c room) (given block) = Handed-in-block c block
+  Gives (block_look_up c room) (given block) = HandedInBlock c block
   Gives (block_look_up c room) (refused n) = Unit {0}
   Gives (block_look_up c room) (answered o rs x) = Unit {0}
   Gives (block_look_up c room) changed_peers = Unit {0}

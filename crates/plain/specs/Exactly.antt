@@ -14,10 +14,10 @@ use Rattle.block.specs.Heads.{head_length}
 use Rattle.block.specs.Readings.{Alone}
 use Rattle.block.specs.Written.{Bytes, head_bytes, sized_bytes}
 use Rattle.block.specs.declared.kind.Reading.{Reading}
-use Rattle.plain.specs.Exact.{Plain-form, Plain-holds, plain_bytes, plain_reading}
+use Rattle.plain.specs.Exact.{PlainForm, PlainHolds, plain_bytes, plain_reading}
 use Rattle.plain.specs.Plains.{payload_from, plain_length, plain_reads}
 
-module _ (digest : List ℕ → List ℕ) (context parent : List ℕ) (height : ℕ) (payload rest : List ℕ) (h : Plain-holds context parent height payload) where
+module _ (digest : List ℕ → List ℕ) (context parent : List ℕ) (height : ℕ) (payload rest : List ℕ) (h : PlainHolds context parent height payload) where
   abbrev head : List ℕ
   head = head_bytes context parent height
 
@@ -49,7 +49,7 @@ module _ (digest : List ℕ → List ℕ) (context parent : List ℕ) (height : 
       ap (λ (xs : List ℕ). take (length context) (drop 1 xs)) (append_assoc head (sized_bytes payload) rest)
       ∙ head_context context parent height (sized_bytes payload ++ rest)
 
-pub was_written : (digest : List ℕ → List ℕ) (blob : List ℕ) (r : Reading) → Bytes blob → plain_reads digest blob ≡ Some r → Plain-form blob r.len
+pub was_written : (digest : List ℕ → List ℕ) (blob : List ℕ) (r : Reading) → Bytes blob → plain_reads digest blob ≡ Some r → PlainForm blob r.len
 was_written digest blob r b e =
     let f = both_from (nat_le (payload_from blob) (length blob)) (nat_le (plain_length blob) (length blob)) _ r e in
     let all : plain_length blob ≤ length blob = leb-true (plain_length blob) (length blob) f.1 in
@@ -57,7 +57,7 @@ was_written digest blob r b e =
     let size : ℕ = word blob (head_length blob) 2 in
     let rest : size ≤ length (drop (payload_from blob) blob) = simp length-drop (omega arith) in
     let l : length (take size (drop (payload_from blob) blob)) ≡ size = length-take-le size (drop (payload_from blob) blob) rest in
-    subst (λ (q : Reading). Plain-form blob q.len) f.2 (record {
+    subst (λ (q : Reading). PlainForm blob q.len) f.2 (record {
       context = context_in_front blob b long;
       parent = parent_in_front blob b long;
       height = word blob (slice_index blob 0 + 33) 8;

@@ -16,7 +16,7 @@ use Rattle.model.specs.State.{awaiting, with_contribution}
 use Rattle.table.proofs.Carried.{all_put}
 use Rattle.table.specs.Table.{put}
 use Rattle.record.specs.Fields.{by_index, by_sender, index_named, sender_named, with_checked, with_pending, with_received, with_verified}
-use Rattle.record.specs.Joins.{Open-to}
+use Rattle.record.specs.Joins.{OpenTo}
 use Rattle.record.specs.Sound.{Lies, Sound, contributions}
 use Rattle.record.specs.Views.{Memory, memory, phase_of, place_of, sent_in, shard_in, shards_of, view}
 use Rattle.record.specs.declared.record.Record.{Record}
@@ -38,7 +38,7 @@ module _ {X Y : Type 0} (f g : X → Y) (n : ℕ) (xs : List X) (alike : map f (
 same_if : {X : Type 0} (b : Bool) (x y z : X) → x ≡ y → cond b x z ≡ cond b y z
 same_if b x y z e = ap (λ w. cond b w z) e
 
-module _ (width slot i : ℕ) (bytes shards after : List ℕ) (size : ℕ) (blobs : List ℕ) (r : Record) (o : Open-to width r i bytes)
+module _ (width slot i : ℕ) (bytes shards after : List ℕ) (size : ℕ) (blobs : List ℕ) (r : Record) (o : OpenTo width r i bytes)
     (written : held width (place_of slot i) (length bytes) after ≡ bytes)
     (others : (other n : ℕ) → (other ≡ place_of slot i → ⊥) → n ≤ width → held width other n after ≡ held width other n shards) where
   abbrev at : Memory
@@ -194,7 +194,7 @@ module _ (width slot i : ℕ) (bytes shards after : List ℕ) (size : ℕ) (blob
         }
 
 -- an assigned shard that comes after the block: it is not kept, and has contributed all the same
-module _ (width i : ℕ) (bytes : List ℕ) (r : Record) (o : Open-to width r i bytes) where
+module _ (width i : ℕ) (bytes : List ℕ) (r : Record) (o : OpenTo width r i bytes) where
   abbrev late : Record
   late = with_verified (with_received r.received r.received_count (set r.contributed i true) r)
 

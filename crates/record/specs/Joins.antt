@@ -12,7 +12,7 @@ pub record Placed (width slot : ℕ) (shards : List ℕ) : Type 0 where
   pub there : (slot * 64 + 64) * width ≤ length shards
 
 -- the record can keep these bytes at an index that has not contributed
-pub record Open-to (width : ℕ) (r : Record) (index : ℕ) (bytes : List ℕ) : Type 0 where
+pub record OpenTo (width : ℕ) (r : Record) (index : ℕ) (bytes : List ℕ) : Type 0 where
   pub sound : Sound width r
   pub within : index < 64
   pub fits : length bytes ≤ width

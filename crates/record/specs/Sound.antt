@@ -41,7 +41,7 @@ abbrev pub Filled : ℕ → Record → Type 0
 Filled minimum r = r.job ≡ true → minimum ≤ r.job_checked + r.job_pending
 
 -- the job is as it was
-pub record Same-job (r s : Record) : Type 0 where
+pub record SameJob (r s : Record) : Type 0 where
   pub out : s.job ≡ r.job
   pub checked : s.job_checked ≡ r.job_checked
   pub pending : s.job_pending ≡ r.job_pending

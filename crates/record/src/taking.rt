@@ -2,8 +2,8 @@
 ghost use Rattle.std.specs.Prelude.{◌≡◌, ℕ, true, false, List, slice_set};
 ghost use Rattle.model.specs.Intake.{joined, with_pending};
 ghost use Rattle.model.specs.State.{awaiting, with_contribution};
-ghost use Rattle.record.specs.Joins.{Elsewhere, Open-to, Placed};
-ghost use Rattle.record.specs.Sound.{Same-job, Sound};
+ghost use Rattle.record.specs.Joins.{Elsewhere, OpenTo, Placed};
+ghost use Rattle.record.specs.Sound.{SameJob, Sound};
 ghost use Rattle.record.specs.Views.{memory, phase_of, shards_of, view};
 ghost use Rattle.scheme.specs.Pieces.{indexed};
 
@@ -22,11 +22,11 @@ impl Record {
         shard: Piece<'_>,
     )
         requires placed { Placed width slot shards.old }
-        requires fits { Open-to width self.old shard.index shard.bytes.now }
+        requires fits { OpenTo width self.old shard.index shard.bytes.now }
         requires before { self.old.cached ≡ false }
         ensures waits { (size : ℕ) (blobs c : List ℕ) → view (memory width shards.new size blobs) c slot self.new ≡ with_contribution (slice_set self.old.contributed shard.entry.index true) self.old.verified (awaiting (with_pending (record { sender = sender.entry.now.bytes; shard = indexed shard.entry }) (shards_of (memory width shards.old size blobs) slot self.old))) (view (memory width shards.old size blobs) c slot self.old) }
         ensures sound { Sound width self.new }
-        ensures job { Same-job self.old self.new }
+        ensures job { SameJob self.old self.new }
         ensures elsewhere { Elsewhere width slot shards.old shards.new }
     {
         let stored = self.keep(shards, width, slot, shard);
@@ -36,10 +36,10 @@ impl Record {
     // The assigned shard is good: it has contributed and is verified; before the block it is received and checked.
     pub fn verify(&mut self, shards: &mut [u8], width: usize, slot: usize, shard: Piece<'_>)
         requires placed { Placed width slot shards.old }
-        requires fits { Open-to width self.old shard.index shard.bytes.now }
+        requires fits { OpenTo width self.old shard.index shard.bytes.now }
         ensures verifies { (size : ℕ) (blobs c : List ℕ) → view (memory width shards.new size blobs) c slot self.new ≡ with_contribution (slice_set self.old.contributed shard.entry.index true) true (joined (indexed shard.entry) (phase_of (memory width shards.old size blobs) slot self.old)) (view (memory width shards.old size blobs) c slot self.old) }
         ensures sound { Sound width self.new }
-        ensures job { Same-job self.old self.new }
+        ensures job { SameJob self.old self.new }
         ensures elsewhere { Elsewhere width slot shards.old shards.new }
     {
         if self.cached {

@@ -46,7 +46,7 @@ same_roll known None = refl
 same_roll known (Some r) = refl
 
 switch_own : (e : ℕ) (known : Bool) (rs : List Row) → row e (switched e known rs) ≡ option_map (with_known known) (row e rs)
-switch_own e known rs = rows.changed-found (with_known known) (stamp e) rs (λ r. refl)
+switch_own e known rs = rows.changed_found (with_known known) (stamp e) rs (λ r. refl)
 
 switch_others : (e j : ℕ) (known : Bool) (rs : List Row) → (e ≢ j) → row j (switched e known rs) ≡ row j rs
 switch_others e j known rs differ =
@@ -65,6 +65,6 @@ epoch_laws = record {
   switch_files = switch_files;
   switch_own = switch_own;
   switch_others = switch_others;
-  add_own = λ e m rs none. rows.put-found (new_row e m) rs none;
+  add_own = λ e m rs none. rows.put_found (new_row e m) rs none;
   add_others = λ e j m rs differ. rows.put_others (new_row e m) (stamp j) rs (λ h. differ (same_number e j h));
 }

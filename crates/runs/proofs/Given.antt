@@ -12,13 +12,13 @@ use Rattle.scheme.specs.Pieces.{Indexed}
 use Rattle.model.specs.Calls.{Call, discovery, notarization, shard, completion, peer_change, block_look_up, verified_look_up, block_in, phase_of, turned_down}
 use Rattle.model.specs.Histories.{Announced, Assignment, Event, HandedIn, Leads}
 use Rattle.model.specs.Meaning.{Meaning, Roster, fitted_for}
-use Rattle.model.specs.Promises.{BlocksWereHandedIn, Gives, Good-shard, Handed-in-block}
+use Rattle.model.specs.Promises.{BlocksWereHandedIn, Gives, GoodShard, HandedInBlock}
 use Rattle.model.specs.State.{Limits, Rec, State, filed_under, record_of}
 use Rattle.model.specs.Steps.{Step, block_given, step, unless_refused}
 use Rattle.runs.proofs.Entries.{all_look, by_option, found_key}
 use Rattle.runs.proofs.Intakes.{by_phases}
 use Rattle.runs.proofs.Invariants.{records_fine}
-use Rattle.runs.proofs.Records.{Checked, FineRecord, Holds, Opened-from}
+use Rattle.runs.proofs.Records.{Checked, FineRecord, Holds, OpenedFrom}
 use Rattle.runs.proofs.Rolls.{roll_record}
 use Rattle.runs.specs.Rolls.{entry_of}
 
@@ -59,7 +59,7 @@ module _ (limits : Limits) (m : Meaning) (a : Assignment) (h : List Event) where
   FineHere = FineRecord limits m a H A
 
   module _ (s : State) (leads : Leads limits m a h s) where
-    block_handed_in : (c : List ℕ) (r : Rec) (blob : List ℕ) → record_of c s ≡ Some r → Opened-from limits m a H A c r.round.epoch.0 blob → Handed-in-block limits m a h c (block_in blob)
+    block_handed_in : (c : List ℕ) (r : Rec) (blob : List ℕ) → record_of c s ≡ Some r → OpenedFrom limits m a H A c r.round.epoch.0 blob → HandedInBlock limits m a h c (block_in blob)
     block_handed_in c r blob at from =
         let behind = fitted-ends limits m c blob from.reading from.fits in
         let whole : blob ≡ block_in blob ++ drop (length blob - 4) blob = sym (take-append-drop (length blob - 4) blob) in
@@ -70,7 +70,7 @@ module _ (limits : Limits) (m : Meaning) (a : Assignment) (h : List Event) where
           sufficient = record {
             many = from.many;
             distinct = from.distinct;
-            each = All-weaker (Checked limits m a H A c r.round.epoch.0) (Good-shard limits m a h c) (λ x k. record { good = k.good; sender = k.sender; handed = k.handed }) from.shards from.each;
+            each = All-weaker (Checked limits m a H A c r.round.epoch.0) (GoodShard limits m a h c) (λ x k. record { good = k.good; sender = k.sender; handed = k.handed }) from.shards from.each;
           };
           participants = All-weaker (Checked limits m a H A c r.round.epoch.0) (λ x. x.index < length (a.keys r.round.epoch.0)) (λ x k. k.below) from.shards from.each;
           config = drop (length blob - 4) blob;

@@ -19,7 +19,7 @@ use Rattle.model.specs.declared.answer.Reason.{Reason}
 use Rattle.runs.proofs.Boxes.{Filled, boxed-filled, drawn_brought, left-filled, renewed-filled}
 use Rattle.runs.proofs.Entries.{all_changed, all_look, all_put, all_trimmed, all_without, by_option, found_key}
 use Rattle.runs.proofs.Rolls.{intake_entry}
-use Rattle.runs.proofs.Ways.{Announced-ways, box_ways, completion_ways, discovery_ways, notarization_ways, shard_ways}
+use Rattle.runs.proofs.Ways.{AnnouncedWays, box_ways, completion_ways, discovery_ways, notarization_ways, shard_ways}
 
 -- the keys and the own index that a roster tells of an epoch are those assigned
 pub record Seated (a : Assignment) (e : ℕ) (keys : List (List ℕ)) (own : Option ℕ) : Type 0 where
@@ -126,7 +126,7 @@ module _ (limits : Limits) (m : Meaning) (a : Assignment) (H : List ℕ → List
       held : (c : List ℕ) (r : Rec) → record_of c s ≡ Some r → P r
       held c r at = all_look order filed_under P c s.records r at sound.records
 
-      announcing : (c : List ℕ) (round : Round) → A c round.epoch.0 → Announced-ways limits m roster s Leaves c round
+      announcing : (c : List ℕ) (round : Round) → A c round.epoch.0 → AnnouncedWays limits m roster s Leaves c round
       announcing c round named = record {
         still = λ _ _. record { sound = sound; reports = tt };
         stood = λ o r _ at same. record { sound = record { records = put_back _ (keeps.observed roster round r same (held c r at)); boxes = sound.boxes }; reports = tt };
@@ -179,7 +179,7 @@ module _ (limits : Limits) (m : Meaning) (a : Assignment) (H : List ℕ → List
       looking (Some (awaiting w)) = record { sound = sound; reports = tt }
       looking (Some (cached blob)) = record { sound = sound; reports = tt }
 
-      answers : (c : List ℕ) (round : Round) → Announced-ways limits m roster s (λ t. Counts t.answer) c round
+      answers : (c : List ℕ) (round : Round) → AnnouncedWays limits m roster s (λ t. Counts t.answer) c round
       answers c round = record {
         still = λ _ _. tt;
         stood = λ _ _ _ _ _. tt;

@@ -74,7 +74,7 @@ module _ (limits : Limits) (m : Meaning) (a : Assignment) (H : List ℕ → List
     pub once : (i : ℕ) → in_play i w ≤ flag (get_or flags i false)
 
   -- a cached blob is what enough good shards at distinct indices opened to, and fits
-  pub record Opened-from (c : List ℕ) (e : ℕ) (blob : List ℕ) : Type 0 where
+  pub record OpenedFrom (c : List ℕ) (e : ℕ) (blob : List ℕ) : Type 0 where
     pub shards : List Indexed
     pub many : minimum_of c ≤ length shards
     pub distinct : Distinct (map index_of shards)
@@ -85,7 +85,7 @@ module _ (limits : Limits) (m : Meaning) (a : Assignment) (H : List ℕ → List
 
   abbrev pub Holds : List ℕ → ℕ → List Bool → Phase → Type 0
   Holds c e flags (awaiting w) = Awaits c e flags w
-  Holds c e flags (cached blob) = Opened-from c e blob
+  Holds c e flags (cached blob) = OpenedFrom c e blob
 
   -- verified on a node with an own index means that the index contributed
   pub record Fine (c : List ℕ) (e : ℕ) (flags : List Bool) (verified : Bool) (phase : Phase) : Type 0 where

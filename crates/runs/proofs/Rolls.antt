@@ -22,7 +22,7 @@ use Rattle.model.specs.declared.answer.Refusal.{Refusal}
 use Rattle.runs.specs.Rolls.{Aligned, entry_of}
 use Rattle.runs.proofs.Entries
 use Rattle.runs.proofs.Intakes.{completes_ways, intake_ways}
-use Rattle.runs.proofs.Ways.{Announced-ways, box_ways, completion_ways, discovery_ways, notarization_ways, shard_ways}
+use Rattle.runs.proofs.Ways.{AnnouncedWays, box_ways, completion_ways, discovery_ways, notarization_ways, shard_ways}
 
 -- intake and a trial of a job leave commitment and round
 pub intake_entry : (m : Meaning) (limit : ℕ) (keys : List (List ℕ)) (own : Option ℕ) (sender : List ℕ) (s : Indexed) (r : Rec) → entry_of (intake m limit keys own sender s r).rec ≡ entry_of r
@@ -96,7 +96,7 @@ module _ (limits : Limits) (m : Meaning) (roster : Roster) (s : State) (up : Asc
         within = Entries.trimmed-length round_of filed_under limits.window (put order filed_under x s.records) rose (omega arith);
       }
 
-  announcing : Announced-ways limits m roster s Announcing c round
+  announcing : AnnouncedWays limits m roster s Announcing c round
   announcing = record {
     still = still;
     stood = λ o r held at _. stood o s.peers [] None r (observes limits m roster round r) held at refl;

@@ -25,14 +25,14 @@ module _ (limits : Limits) (m : Meaning) (roster : Roster) (s : State) (Q : Step
       by_option (λ o. Q (draws limits m roster store Held o r s)) (roster.keys r.round.epoch.0) none some
 
   -- discovery and notarization of c at a round
-  pub record Announced-ways (c : List ℕ) (round : Round) : Type 0 where
+  pub record AnnouncedWays (c : List ℕ) (round : Round) : Type 0 where
     pub still : (o : Outcome) → says_held o ≡ false → Q (stays limits m roster o s)
     pub stood : (o : Outcome) (r : Rec) → says_held o ≡ true → record_of c s ≡ Some r → same_epoch r.round round ≡ true → Q (stays limits m roster o (with_records (replaced (observes limits m roster round r) s.records) s))
     pub led : (leader : List ℕ) (r : Rec) → record_of c s ≡ Some r → same_epoch r.round round ≡ true → r.leader ≡ None → Q (box_intake limits m roster (λ x. replaced x s.records) (with_leader (Some leader) (observes limits m roster round r)) s)
     pub again : (r : Rec) (w : Shards) → record_of c s ≡ Some r → same_epoch r.round round ≡ true → r.phase ≡ awaiting w → Q (box_intake limits m roster (λ x. replaced x s.records) (observes limits m roster round r) s)
     pub new : (leader : Option (List ℕ)) → record_of c s ≡ None → is_some (roster.keys round.epoch.0) ≡ true → admits round_of filed_under limits.window round s.records ≡ true → Q (box_intake limits m roster (λ x. entered x s.records) (new_record c round leader) s)
 
-  module _ (c : List ℕ) (round : Round) (ways : Announced-ways c round) where
+  module _ (c : List ℕ) (round : Round) (ways : AnnouncedWays c round) where
     entering : (leader : Option (List ℕ)) → record_of c s ≡ None → is_some (roster.keys round.epoch.0) ≡ true → Q (enters limits m roster c round leader s)
     entering leader none known =
         cond_both (admits round_of filed_under limits.window round s.records) (box_intake limits m roster (λ x. entered x s.records) (new_record c round leader) s) (stays limits m roster Declined s) Q
@@ -74,12 +74,12 @@ module _ (limits : Limits) (m : Meaning) (roster : Roster) (s : State) (Q : Step
         (λ _. ways.still OtherEpoch refl))
 
   -- a shard from a peer
-  pub record Shard-ways (c peer : List ℕ) (x : Indexed) : Type 0 where
+  pub record ShardWays (c peer : List ℕ) (x : Indexed) : Type 0 where
     pub still : (o : Outcome) → Q (stays limits m roster o s)
     pub boxed : is_primary peer s.peers ≡ true → Q (stays limits m roster Boxed (with_peers (boxes_with limits.boxes peer (record { commitment = c; shard = x }) s.peers) s))
     pub takes : (r : Rec) (keys : List (List ℕ)) → record_of c s ≡ Some r → roster.keys r.round.epoch.0 ≡ Some keys → too_early limits m roster r.leader (index peer keys) x.index ≡ false → Q (takes_shard limits m roster keys peer x r s)
 
-  module _ (c peer : List ℕ) (x : Indexed) (ways : Shard-ways c peer x) where
+  module _ (c peer : List ℕ) (x : Indexed) (ways : ShardWays c peer x) where
     boxing : Q (boxes_shard limits m roster c peer x s)
     unfolding boxes_shard
     boxing =

@@ -6,7 +6,7 @@ use Rattle.std.specs.List.{AllByRecursion}
 use Rattle.table.specs.Laws.{Ascends, look, Differ, Keeps, Laws, FoundExactly}
 use Rattle.table.specs.Table.{pick, put, without, changed}
 use Rattle.table.proofs.Orders.{by_order, Lawful, itself, above, below}
-use Rattle.table.proofs.Search.{changed-found, found_looks}
+use Rattle.table.proofs.Search.{changed_found, found_looks}
 
 module _ {K E : Type 0} (order : K → K → Ordering) (key : E → K) (laws : Lawful order) where
   all_found : (xs : List E) (i : ℕ) (d : E) → Ascends order key xs → i < length xs → look order key (key (get_or xs i d)) xs ≡ Some (get_or xs i d)
@@ -25,11 +25,11 @@ module _ {K E : Type 0} (order : K → K → Ordering) (key : E → K) (laws : L
       let more = above order laws _ _ (All-get_or (λ y. order (key x) (key y) ≡ Less) xs i d (le_of_suc-le-suc hi) up.0) in cc
   once (x ∷ xs) (suc i) (suc j) d up hi hj e = ap suc (once xs i j d up.1 (le_of_suc-le-suc hi) (le_of_suc-le-suc hj) e)
 
-  put-found : (e : E) (xs : List E) → look order key (key e) xs ≡ None → look order key (key e) (put order key e xs) ≡ Some e
-  put-found e [] h = rw (itself order laws (key e))
-  put-found e (x ∷ xs) h =
+  put_found : (e : E) (xs : List E) → look order key (key e) xs ≡ None → look order key (key e) (put order key e xs) ≡ Some e
+  put_found e [] h = rw (itself order laws (key e))
+  put_found e (x ∷ xs) h =
       by_order (order (key x) (key e))
-      (λ l. simp l (put-found e xs (simp l at h)))
+      (λ l. simp l (put_found e xs (simp l at h)))
       (λ q. let n = simp q at h in cc)
       (λ m. simp (m, itself order laws (key e)))
 
@@ -150,14 +150,14 @@ module _ {K E : Type 0} (order : K → K → Ordering) (key : E → K) (laws : L
     found_looks = found_looks order key;
     all_found = all_found;
     once = once;
-    put-found = put-found;
+    put_found = put_found;
     put_others = put_others;
     put_ascends = put_ascends;
     without_gone = without_gone;
     without_others = without_others;
     without_ascends = without_ascends;
-    changed-at = changed-found order key;
-    changed-found = λ f k xs keeps. changed_own f keeps k xs;
+    changed_at = changed_found order key;
+    changed_found = λ f k xs keeps. changed_own f keeps k xs;
     changed_others = λ f k j xs keeps. changed_others f keeps k j xs;
     changed_ascends = λ f k xs keeps. changed_ascends f keeps k xs;
   }

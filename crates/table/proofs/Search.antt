@@ -31,10 +31,10 @@ module _ {E : Type 0} (x : E) (xs ys : List E) where
   changed-step f Greater r h = refl
 
 module _ {K E : Type 0} (order : K → K → Ordering) (key : E → K) where
-  pub put-found : (e : E) (xs : List E) → MatchResult (found order key (key e) xs) (λ _. put order key e xs ≡ xs) (λ i. put order key e xs ≡ insert xs i e)
-  put-found e [] = refl
-  put-found e (x ∷ xs) =
-      put_step x xs (put order key e xs) e (order (key x) (key e)) (found order key (key e) xs) (put-found e xs)
+  pub put_found : (e : E) (xs : List E) → MatchResult (found order key (key e) xs) (λ _. put order key e xs ≡ xs) (λ i. put order key e xs ≡ insert xs i e)
+  put_found e [] = refl
+  put_found e (x ∷ xs) =
+      put_step x xs (put order key e xs) e (order (key x) (key e)) (found order key (key e) xs) (put_found e xs)
 
   pub without-found : (k : K) (xs : List E) → MatchResult (found order key k xs) (λ i. without order key k xs ≡ remove xs i) (λ _. without order key k xs ≡ xs)
   without-found k [] = refl
@@ -44,7 +44,7 @@ module _ {K E : Type 0} (order : K → K → Ordering) (key : E → K) where
   pub put-at : (e : E) (xs : List E) (i : ℕ) → Err i ≡ found order key (key e) xs → put order key e xs ≡ insert xs i e
   put-at e xs i is =
       let P : Result ℕ ℕ → Type 0 = λ r. MatchResult r (λ _. put order key e xs ≡ xs) (λ j. put order key e xs ≡ insert xs j e) in
-      subst P (sym is) (put-found e xs)
+      subst P (sym is) (put_found e xs)
 
   pub without_at : (k : K) (xs : List E) (i : ℕ) → Ok i ≡ found order key k xs → without order key k xs ≡ remove xs i
   without_at k xs i is =
@@ -62,14 +62,14 @@ module _ {K E : Type 0} (order : K → K → Ordering) (key : E → K) where
       let P : Result ℕ ℕ → Type 0 = λ z. MatchResult z (λ i. (d : E) → look order key k xs ≡ Some (get_or xs i d)) (λ _. look order key k xs ≡ None) in
       subst P (sym is) (found_looks k xs)
 
-  pub changed-found : (f : E → E) (k : K) (xs : List E) → MatchResult (found order key k xs) (λ i. (d : E) → changed order key f k xs ≡ set xs i (f (get_or xs i d))) (λ _. changed order key f k xs ≡ xs)
-  changed-found f k [] = refl
-  changed-found f k (x ∷ xs) =
-      changed-step x xs (changed order key f k xs) f (order (key x) k) (found order key k xs) (changed-found f k xs)
+  pub changed_found : (f : E → E) (k : K) (xs : List E) → MatchResult (found order key k xs) (λ i. (d : E) → changed order key f k xs ≡ set xs i (f (get_or xs i d))) (λ _. changed order key f k xs ≡ xs)
+  changed_found f k [] = refl
+  changed_found f k (x ∷ xs) =
+      changed-step x xs (changed order key f k xs) f (order (key x) k) (found order key k xs) (changed_found f k xs)
 
   -- a write into the slice, at the place that was found in its first n
-  pub changed-at : (f : E → E) (k : K) (slots : List E) (n i : ℕ) (d : E) → i < n → Ok i ≡ found order key k (take n slots) → take n (set slots i (f (get_or slots i d))) ≡ changed order key f k (take n slots)
-  changed-at f k slots n i d h is =
+  pub changed_at : (f : E → E) (k : K) (slots : List E) (n i : ℕ) (d : E) → i < n → Ok i ≡ found order key k (take n slots) → take n (set slots i (f (get_or slots i d))) ≡ changed order key f k (take n slots)
+  changed_at f k slots n i d h is =
       let xs = take n slots in
       let P : Result ℕ ℕ → Type 0 = λ r. MatchResult r (λ j. (z : E) → changed order key f k xs ≡ set xs j (f (get_or xs j z))) (λ _. changed order key f k xs ≡ xs) in
-      take-set-lt n slots i _ h ∙ ap (λ z. set xs i (f z)) (sym (get_or-take n slots i d h)) ∙ sym (subst P (sym is) (changed-found f k xs) d)
+      take-set-lt n slots i _ h ∙ ap (λ z. set xs i (f z)) (sym (get_or-take n slots i d h)) ∙ sym (subst P (sym is) (changed_found f k xs) d)

@@ -30,7 +30,7 @@ module _ {K E : Type 0} (order : K → K → Ordering) (key : E → K) where
     pub all_found : (xs : List E) (i : ℕ) (d : E) → Ascends xs → i < length xs → look (key (slice_index_or xs i d)) xs ≡ Some (slice_index_or xs i d)
     pub once : (xs : List E) (i j : ℕ) (d : E) → Ascends xs → i < length xs → j < length xs → order (key (slice_index_or xs i d)) (key (slice_index_or xs j d)) ≡ Equal → i ≡ j
     -- an entry that is put in is found, and the others as before
-    pub put-found : (e : E) (xs : List E) → look (key e) xs ≡ None → look (key e) (put order key e xs) ≡ Some e
+    pub put_found : (e : E) (xs : List E) → look (key e) xs ≡ None → look (key e) (put order key e xs) ≡ Some e
     pub put_others : (e : E) (k : K) (xs : List E) → Differ (key e) k → look k (put order key e xs) ≡ look k xs
     pub put_ascends : (e : E) (xs : List E) → Ascends xs → Ascends (put order key e xs)
     -- an entry that is taken out is not found, and the others as before
@@ -38,8 +38,8 @@ module _ {K E : Type 0} (order : K → K → Ordering) (key : E → K) where
     pub without_others : (k j : K) (xs : List E) → Ascends xs → Differ k j → look j (without order key k xs) ≡ look j xs
     pub without_ascends : (k : K) (xs : List E) → Ascends xs → Ascends (without order key k xs)
     -- a change that keeps the key is a write at the place that is found; it is found, and the others as before
-    pub changed-at : (f : E → E) (k : K) (xs : List E) → MatchResult (found order key k xs) (λ i. (d : E) → changed order key f k xs ≡ slice_set xs i (f (slice_index_or xs i d))) (λ _. changed order key f k xs ≡ xs)
-    pub changed-found : (f : E → E) (k : K) (xs : List E) → Keeps f → look k (changed order key f k xs) ≡ option_map f (look k xs)
+    pub changed_at : (f : E → E) (k : K) (xs : List E) → MatchResult (found order key k xs) (λ i. (d : E) → changed order key f k xs ≡ slice_set xs i (f (slice_index_or xs i d))) (λ _. changed order key f k xs ≡ xs)
+    pub changed_found : (f : E → E) (k : K) (xs : List E) → Keeps f → look k (changed order key f k xs) ≡ option_map f (look k xs)
     pub changed_others : (f : E → E) (k j : K) (xs : List E) → Keeps f → Differ k j → look j (changed order key f k xs) ≡ look j xs
     pub changed_ascends : (f : E → E) (k : K) (xs : List E) → Keeps f → Ascends xs → Ascends (changed order key f k xs)
 
