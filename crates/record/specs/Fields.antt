@@ -3,6 +3,7 @@ use Rattle.std.specs.Prelude.{ℕ, Bool, true, List}
 use Rattle.std.specs.declared.cmp.Ordering.{Ordering}
 use Rattle.std.specs.Ordering.{nat_cmp}
 use Rattle.register.specs.Order.{order}
+use Rattle.register.specs.declared.counters.Round.{Round}
 use Rattle.register.specs.declared.key.Key.{Key}
 use Rattle.register.specs.declared.ordered.Index.{Index}
 use Rattle.record.specs.declared.record.Record.{Record}
@@ -36,3 +37,8 @@ with_pending pending n r =
 abbrev pub with_verified : Record → Record
 with_verified r =
     record { round = r.round; led = r.led; leader = r.leader; contributed = r.contributed; verified = true; completions = r.completions; cached = r.cached; blob_len = r.blob_len; received = r.received; received_count = r.received_count; checked = r.checked; checked_count = r.checked_count; job_checked = r.job_checked; pending = r.pending; pending_count = r.pending_count; job_pending = r.job_pending; job = r.job }
+
+-- all but the round stays
+abbrev pub at_round : Round → Record → Record
+at_round round r =
+    record { round = round; led = r.led; leader = r.leader; contributed = r.contributed; verified = r.verified; completions = r.completions; cached = r.cached; blob_len = r.blob_len; received = r.received; received_count = r.received_count; checked = r.checked; checked_count = r.checked_count; job_checked = r.job_checked; pending = r.pending; pending_count = r.pending_count; job_pending = r.job_pending; job = r.job }

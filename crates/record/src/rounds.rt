@@ -1,6 +1,7 @@
 // A record's round and leader.
 ghost use Rattle.std.specs.Prelude.{◌≡◌, ℕ, List, Some};
 ghost use Rattle.model.specs.State.{larger, with_leader, with_round};
+ghost use Rattle.record.specs.Fields.{at_round};
 ghost use Rattle.record.specs.Views.{Memory, view};
 
 use crate::record::Record;
@@ -10,7 +11,8 @@ use register::key::Key;
 impl Record {
     // A record takes the larger round.
     pub fn observe(&mut self, round: Round)
-        ensures { (at : Memory) (c : List ℕ) (slot : ℕ) → view at c slot self.new ≡ with_round (larger self.old.round round) (view at c slot self.old) }
+        ensures view { (at : Memory) (c : List ℕ) (slot : ℕ) → view at c slot self.new ≡ with_round (larger self.old.round round) (view at c slot self.old) }
+        ensures stays { self.new ≡ at_round (larger self.old.round round) self.old }
     {
         if self.round < round {
             self.round = round;

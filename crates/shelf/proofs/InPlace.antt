@@ -1,24 +1,22 @@
 -- One record changed in its slot: it is the only one that changes.
-use Rattle.std.proofs.Common.{◌≡◌, ℕ, zero, suc, ◌+◌, ◌*◌, ◌<◌, ◌≤◌, Bool, true, false, cond, List, [], ◌∷◌, map, length, get_or, take, drop, set, None, sym, refl, ap, ◌∙◌, subst, arith, length-set, length-take, get_or-set_other, get_or-take, get_or-set_same}
-use Rattle.std.proofs.ByRecursion.{All-get_or, All-set, All-take, All-weaker}
+use Rattle.std.proofs.Common.{◌≡◌, ℕ, zero, suc, ◌<◌, Bool, cond, List, [], ◌∷◌, map, length, get_or, take, set, None, sym, refl, ap, ◌∙◌, arith, get_or-set_other, get_or-set_same}
+use Rattle.std.proofs.ByRecursion.{All-weaker}
 use Rattle.std.specs.List.{AllByRecursion}
 use Rattle.places.specs.Places.{held}
-use Rattle.model.specs.Meaning.{minimum_of}
 use Rattle.model.specs.Promises.{Distinct}
-use Rattle.model.specs.State.{Rec, awaiting, cached}
+use Rattle.model.specs.State.{awaiting, cached}
 use Rattle.record.proofs.Joined.{front_alike, rest_alike}
-use Rattle.record.proofs.Joining.{map_alike, same_or_not}
+use Rattle.record.proofs.Joining.{map_alike}
 use Rattle.record.proofs.Starting.{same_job, same_shards}
 use Rattle.record.specs.Joins.{Elsewhere}
-use Rattle.record.specs.Sound.{Lies, Rooms, Sound}
+use Rattle.record.specs.Sound.{Lies, Sound}
 use Rattle.record.specs.Views.{Memory, memory, phase_of, sent_in, shard_in, shards_of, view}
 use Rattle.record.specs.declared.record.Record.{Record}
 use Rattle.record.specs.declared.stored.Pending.{Pending}
 use Rattle.record.specs.declared.stored.Stored.{Stored}
-use Rattle.shelf.specs.Views.{blank, held_in, nothing, record_in, shelf_of, slot_of}
-use Rattle.shelf.specs.Whole.{Fine, OtherBlobs, Whole, with_records}
+use Rattle.shelf.specs.Views.{blank, nothing, record_in, slot_of}
+use Rattle.shelf.specs.Whole.{Fine, OtherBlobs}
 use Rattle.shelf.specs.declared.shelf.Filed.{Filed}
-use Rattle.shelf.specs.declared.shelf.Shelf.{Shelf}
 
 slot_at : (P : ℕ → Type 0) (xs : List Filed) (i : ℕ) → i < length xs → AllByRecursion P (map slot_of xs) → P (get_or xs i nothing).slot
 slot_at P [] i h all = absurd (omega arith)

@@ -1,5 +1,5 @@
 -- What holds of a shelf between calls. Assumes nothing.
-use Rattle.std.specs.Prelude.{◌≡◌, ℕ, ◌+◌, ◌*◌, ◌<◌, ◌≤◌, List, map, length, take, ◌≢◌, slice_index_or}
+use Rattle.std.specs.Prelude.{◌≡◌, ℕ, ◌+◌, ◌*◌, ◌≤◌, List, map, length, take, ◌≢◌, slice_index_or}
 use Rattle.std.specs.List.{AllByRecursion}
 use Rattle.model.specs.Meaning.{minimum_of}
 use Rattle.model.specs.Promises.{Distinct}
@@ -7,7 +7,6 @@ use Rattle.places.specs.Places.{held}
 use Rattle.record.specs.Sound.{Filled, Rooms, Sound}
 use Rattle.record.specs.declared.record.Record.{Record}
 use Rattle.shelf.specs.Views.{blank, held_in, slot_of}
-use Rattle.shelf.specs.declared.shelf.Filed.{Filed}
 use Rattle.shelf.specs.declared.shelf.Shelf.{Shelf}
 
 -- a record can be read, its job holds the minimum, and its blob lies in its place

@@ -1,6 +1,6 @@
 // One record of the shelf, lent to be changed in place.
-ghost use Rattle.std.specs.Prelude.{◌≡◌, ℕ, ◌<◌, List, get_or, Some, slice_index_or, slice_set};
-ghost use Rattle.model.specs.State.{larger, with_leader, with_round};
+ghost use Rattle.std.specs.Prelude.{◌≡◌, ℕ, ◌<◌, List, get_or, slice_index_or, slice_set};
+ghost use Rattle.model.specs.State.{larger, with_round};
 ghost use Rattle.shelf.specs.Views.{blank, nothing, record_in, shelf_of};
 ghost use Rattle.shelf.specs.Whole.{Whole};
 ghost use Rattle.record.specs.Views.{memory};
