@@ -13,10 +13,13 @@ import sys
 
 EDGE = r"[^\s(){}\[\];,.:λ→×]"
 TOKEN = re.compile(r"(?<![^\s(){}\[\];,.:λ→×←@])" + EDGE + r"+")
-DECLARED = re.compile(r"^\s*(?:(abbrev|unfoldable)\s+)?(?:pub\s+)?(?:(record|data)\s+)?(" + EDGE + r"+(?:\s+" + EDGE + r"+)*?)\s+:\s")
+DECLARED = re.compile(r"^\s*(?:(abbrev|unfoldable)\s+)?(?:pub\s+)?(" + EDGE + r"+(?:\s+" + EDGE + r"+)*?)\s+:\s")
 WORDS = {"let", "module", "use", "elim", "in", "where", "abbrev", "unfoldable", "pub", "record", "data", "mutual"}
 # words of the library that a lemma's name may join by a dash
 LIBRARY = {"take", "drop", "length", "map", "filter", "append", "cons", "set", "get_or", "get", "xor", "le", "lt", "suc", "zero", "some", "none", "fold", "sum", "take_more"}
+
+# names that begin with a standard's letter and are no facts
+KEPT = {"R-after": "R_after", "RC-from": "RC_from"}
 
 
 def texts(*kinds):
@@ -30,25 +33,35 @@ def declarations():
     """Each own name, with whether it is a definition, a type or a field, and not a lemma; and the functions of specs/."""
     names, functions = {}, set(LIBRARY)
     for path in texts("specs/**/*.antt", "proofs/**/*.antt"):
-        inside = member = False
+        block, depth = None, 0
         with open(path, encoding="utf-8") as f:
             for line in f:
-                if line.strip() and not line.startswith((" ", "\t")):
-                    inside = bool(re.match(r"(pub )?(record|data) .*where|module ", line))
-                    member = inside and not line.startswith("module")
+                indent = len(line) - len(line.lstrip())
+                if line.strip() and block and indent <= depth:
+                    block = None
+                head = re.match(r"\s*(?:pub )?(record|data) (?:pub )?(" + EDGE + r"+)", line)
+                if head:
+                    block, depth = head.group(1), indent
+                    names[head.group(2)] = True
+                    continue
                 if "goal." in line or re.match(r"\s*(use|--)\b", line):
                     continue
                 m = DECLARED.match(line)
-                if not m or line.startswith(" ") and not inside:
+                if not m or indent and not block and not in_module(path, indent):
                     continue
-                for name in m.group(3).split():
+                for name in m.group(2).split():
                     if name in WORDS or re.search(r"[=\"]", name):
                         continue
-                    definition = bool(m.group(1) or m.group(2)) or member or "/specs/" in path and "≡" not in line and "→ " not in line
+                    definition = bool(m.group(1) or block) or "/specs/" in path and "≡" not in line and "→ " not in line
                     names[name] = names.get(name, False) or definition
                     if m.group(1) and "/specs/" in path and name[0].islower():
                         functions.add(snake(name).replace("-", "_"))
     return names, functions
+
+
+def in_module(path, indent):
+    """Declarations of a module with parameters are indented once."""
+    return indent == 2
 
 
 def snake(name):
@@ -56,6 +69,8 @@ def snake(name):
 
 
 def spelled(name, names, functions):
+    if name in KEPT:
+        return KEPT[name]
     if not re.search(r"[A-Za-z]", name):
         return name
     if name[0].isupper():
@@ -71,7 +86,17 @@ def spelled(name, names, functions):
     return out.replace("-", "_")
 
 
+def plain_all(text):
+    """The library's All is another word than the one by recursion, which port.py brings in under that name."""
+    if "AllByRecursion as All" not in text:
+        return text
+    lines = text.replace("AllByRecursion as All", "AllByRecursion").split("\n")
+    turned = (n if re.match(r"(ghost )?use ", n) else re.sub(r"(?<![\w'.·-])All(?![\w'-])", "AllByRecursion", n) for n in lines)
+    return "\n".join(turned)
+
+
 def renamed(text, table):
+    text = plain_all(text)
     return TOKEN.sub(lambda m: table.get(m.group(0), m.group(0)), text)
 
 
