@@ -13,7 +13,7 @@ use Rattle.model.specs.Histories.{Agrees, Assignment, Entry, Event, HandedIn, Le
 use Rattle.model.specs.Intake.{index_of}
 use Rattle.model.specs.Jobs.{completes, job_in, passing, shard_of}
 use Rattle.model.specs.Meaning.{Meaning, Roster, good_for, minimum_of, rebuilt_for}
-use Rattle.model.specs.Promises.{CompletesWell, Completing, EndedAbove, Enough, EnoughBringTheBlock, GoodShard, Goes_on, HandsIn, Sufficient, asked}
+use Rattle.model.specs.Promises.{CompletesWell, Completing, EndedAbove, Enough, EnoughBringTheBlock, GoodShard, GoesOn, HandsIn, Sufficient, asked}
 use Rattle.model.specs.State.{Job, Limits, Phase, awaiting, cached, Rec, Shards, State, filed_under, record_of}
 use Rattle.model.specs.Steps.{block_given, completed_by, completion_by, completion_of, step, unless_refused}
 use Rattle.model.specs.declared.answer.Refusal.{Refusal}
@@ -172,9 +172,9 @@ module _ (limits : Limits) (m : Meaning) (a : Assignment) (h : List Event) (c : 
         let z : ◌≡◌ {A = ℕ} 0 1 = cc in omega arith
 
     goes_on : (w : Shards) (j : Job) → r.commitment ≡ c → WaitingHere w →
-        w.job ≡ Some j → Goes_on (completes m limits.blob j r).outcome
+        w.job ≡ Some j → GoesOn (completes m limits.blob j r).outcome
     goes_on w j named k out =
-        completes_ways m limits.blob j r (λ e. Goes_on e.outcome)
+        completes_ways m limits.blob j r (λ e. GoesOn e.outcome)
         (record {
           short = λ _. tt;
           whole = λ _ _ _. tt;
@@ -205,7 +205,7 @@ module _ (limits : Limits) (m : Meaning) (roster : Roster) (s : State) (c : List
       (subst (λ b. look_answer (unless b Malformed (gives room (Some (cached blob)))) (Some (cached blob)) ≡ refused NoBlock → ⊥) (sym proper) here))
 
   -- a job that is out is completed
-  completing : (r : Rec) (j : Job) → is_commitment c ≡ true → record_of c s ≡ Some r → job_in r.phase ≡ Some j → Goes_on (completes m limits.blob j r).outcome →
+  completing : (r : Rec) (j : Job) → is_commitment c ≡ true → record_of c s ≡ Some r → job_in r.phase ≡ Some j → GoesOn (completes m limits.blob j r).outcome →
       CompletesWell (step limits m roster (completion c (record { reports = 512; broadcast = limits.shard })) s).answer
   unfolding step completion_of
   completing r j proper at out goes =

@@ -1,7 +1,7 @@
-// C-callable functions on byte slices: thin, and nothing else.
+// The hashes on byte slices, as C calls them: thin, and nothing else. `exports_c` gives them to C under these names.
 #![tactic(auto)]
 
-ghost use Rattle.std.specs.Prelude.{cond, ◌++◌, ◌≡◌, eqb, length};
+ghost use Rattle.std.specs.Prelude.{◌≡◌, ◌==◌, ◌++◌, length, if◌then◌else◌};
 ghost use Rattle.sha256.specs.Fips180.{sha256};
 ghost use Rattle.sha3.specs.Fips202.{sha3_256};
 
@@ -12,8 +12,8 @@ use sha256::Sha256;
 // The SHA-256 digest of `first` followed by `second`, where `out` has 32 bytes; else false, and `out` stands as before.
 #[unsafe(no_mangle)]
 pub extern "C" fn covasluk_sha256(first: &[u8], second: &[u8], out: &mut [u8]) -> bool
-    ensures fits { result ≡ eqb (length out.old) 32 }
-    ensures after { out.new ≡ cond result (sha256 (first.now ++ second.now)) out.old }
+    ensures fits { result ≡ (length out.old == 32) }
+    ensures after { out.new ≡ (if result then sha256 (first.now ++ second.now) else out.old) }
 {
     if out.len() != 32 {
         return false;
@@ -25,8 +25,8 @@ pub extern "C" fn covasluk_sha256(first: &[u8], second: &[u8], out: &mut [u8]) -
 // The SHA3-256 digest of `first` followed by `second`, where `out` has 32 bytes; else false, and `out` stands as before.
 #[unsafe(no_mangle)]
 pub extern "C" fn covasluk_sha3_256(first: &[u8], second: &[u8], out: &mut [u8]) -> bool
-    ensures fits { result ≡ eqb (length out.old) 32 }
-    ensures after { out.new ≡ cond result (sha3_256 (first.now ++ second.now)) out.old }
+    ensures fits { result ≡ (length out.old == 32) }
+    ensures after { out.new ≡ (if result then sha3_256 (first.now ++ second.now) else out.old) }
 {
     if out.len() != 32 {
         return false;

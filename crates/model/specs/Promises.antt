@@ -20,25 +20,25 @@ Distinct [] = Unit {0}
 Distinct (x ∷ xs) = AllByRecursion (λ y. x ≢ y) xs × Distinct xs
 
 -- a completion that answers `cached` or `short`
-abbrev pub Goes_on : Outcome → Type 0
-Goes_on (Short n) = Unit {0}
-Goes_on (Rebuilt n) = Unit {0}
-Goes_on (Failed n e) = ⊥
-Goes_on NoEpoch = ⊥
-Goes_on NoMember = ⊥
-Goes_on OtherEpoch = ⊥
-Goes_on LeaderStands = ⊥
-Goes_on Declined = ⊥
-Goes_on Held = ⊥
-Goes_on Cached = ⊥
-Goes_on Ignored = ⊥
-Goes_on Boxed = ⊥
-Goes_on NotBoxed = ⊥
-Goes_on Gain = ⊥
-Goes_on NoGain = ⊥
+abbrev pub GoesOn : Outcome → Type 0
+GoesOn (Short n) = Unit {0}
+GoesOn (Rebuilt n) = Unit {0}
+GoesOn (Failed n e) = ⊥
+GoesOn NoEpoch = ⊥
+GoesOn NoMember = ⊥
+GoesOn OtherEpoch = ⊥
+GoesOn LeaderStands = ⊥
+GoesOn Declined = ⊥
+GoesOn Held = ⊥
+GoesOn Cached = ⊥
+GoesOn Ignored = ⊥
+GoesOn Boxed = ⊥
+GoesOn NotBoxed = ⊥
+GoesOn Gain = ⊥
+GoesOn NoGain = ⊥
 
 abbrev pub CompletesWell : Answer → Type 0
-CompletesWell (answered o rs a) = Goes_on o
+CompletesWell (answered o rs a) = GoesOn o
 CompletesWell (refused n) = ⊥
 CompletesWell changed_peers = ⊥
 CompletesWell (given b) = ⊥

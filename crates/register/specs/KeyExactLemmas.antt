@@ -1,3 +1,4 @@
+-- A key is made of its bytes alone. Assumes nothing.
 use Rattle.std.specs.Prelude.{ℕ, List}
 use Rattle.register.specs.declared.key.Key.{Key}
 

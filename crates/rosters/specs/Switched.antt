@@ -1,5 +1,5 @@
 -- What the changes of a table of epochs leave.
-use Rattle.std.specs.Prelude.{◌≡◌, ℕ, Bool, true, false, cond, List, is_some as option_is_some, Some, None, Option, ◌≢◌, refl}
+use Rattle.std.specs.Prelude.{◌≡◌, ℕ, Bool, true, false, cond, List, is_some, Some, None, Option, ◌≢◌, refl}
 use Rattle.std.specs.declared.cmp.Ordering.TheVariants.{Equal}
 use Rattle.std.proofs.Common.{⊎_elim, sym, ap, ◌∙◌, arith}
 use Rattle.std.proofs.lemmas.Bool.{cases_eq}
@@ -25,8 +25,8 @@ pub told_fair : (o : Option Row) → Fair (keys_told o) (own_told o)
 told_fair None = refl
 told_fair (Some r) = told_by r r.known
 
-pub is_some : (o : Option Row) (r : Row) → o ≡ Some r → true ≡ option_is_some o
-is_some o r h = ap option_is_some (sym h)
+pub told_is_some : (o : Option Row) (r : Row) → o ≡ Some r → true ≡ is_some o
+told_is_some o r h = ap is_some (sym h)
 
 numbers : Lawful by_number
 numbers = record {
