@@ -1,14 +1,16 @@
 // Memory in places of one size: byte strings lie at the front of their places and never move.
 #![tactic(auto)]
 
-ghost use Rattle.std.specs.Prelude.{◌≡◌, ℕ, ◌+◌, ◌*◌, ◌≤◌, length, ◌≢◌};
+ghost use Rattle.std.specs.Prelude.{◌≡◌, ℕ, ◌+◌, ◌*◌, ◌≤◌, ◌≢◌, length, take, drop};
 ghost use Rattle.places.specs.Places.{held};
 
-// Writes `bytes` to the front of a place. What lies in other places stays.
+// Writes `bytes` to the front of a place. All before and behind them stays, so what lies in other places does.
 pub fn store(memory: &mut [u8], size: usize, place: usize, bytes: &[u8])
     requires fits { length bytes.now ≤ size }
     requires there { place * size + size ≤ length memory.old }
     ensures written { held size place (length bytes.now) memory.new ≡ bytes.now }
+    ensures before { take (place * size) memory.new ≡ take (place * size) memory.old }
+    ensures behind { drop (place * size + length bytes.now) memory.new ≡ drop (place * size + length bytes.now) memory.old }
     ensures others { (other n : ℕ) → (other ≢ place) → n ≤ size → held size other n memory.new ≡ held size other n memory.old }
 {
     let from = place * size;

@@ -38,6 +38,11 @@ abbrev pub with_verified : Record → Record
 with_verified r =
     record { round = r.round; led = r.led; leader = r.leader; contributed = r.contributed; verified = true; completions = r.completions; cached = r.cached; blob_len = r.blob_len; received = r.received; received_count = r.received_count; checked = r.checked; checked_count = r.checked_count; job_checked = r.job_checked; pending = r.pending; pending_count = r.pending_count; job_pending = r.job_pending; job = r.job }
 
+-- all but the leader stays
+abbrev pub under_leader : Key → Record → Record
+under_leader leader r =
+    record { round = r.round; led = true; leader = leader; contributed = r.contributed; verified = r.verified; completions = r.completions; cached = r.cached; blob_len = r.blob_len; received = r.received; received_count = r.received_count; checked = r.checked; checked_count = r.checked_count; job_checked = r.job_checked; pending = r.pending; pending_count = r.pending_count; job_pending = r.job_pending; job = r.job }
+
 -- all but the round stays
 abbrev pub at_round : Round → Record → Record
 at_round round r =

@@ -25,6 +25,7 @@ impl Record {
         ensures stays { self.new ≡ with_received self.new.received self.new.received_count (slice_set self.old.contributed shard.entry.index true) self.old }
         ensures table { take self.new.received_count self.new.received ≡ put by_index index_named result (take self.old.received_count self.old.received) }
         ensures count { self.new.received_count ≤ self.old.received_count + 1 }
+        ensures behind { drop (self.old.received_count + 1) self.new.received ≡ drop (self.old.received_count + 1) self.old.received }
         ensures long { length self.new.received ≡ length self.old.received }
         ensures written { held width (place_of slot shard.entry.index) (length shard.entry.bytes.now) shards.new ≡ shard.entry.bytes.now }
         ensures others { (other n : ℕ) → (other ≢ place_of slot shard.entry.index) → n ≤ width → held width other n shards.new ≡ held width other n shards.old }
@@ -57,6 +58,7 @@ impl Record {
         ensures job { take self.old.job_pending self.new.pending ≡ take self.old.job_pending self.old.pending }
         ensures table { drop self.old.job_pending (take self.new.pending_count self.new.pending) ≡ put by_sender sender_named (record { sender = sender.entry.now; shard = stored }) (drop self.old.job_pending (take self.old.pending_count self.old.pending)) }
         ensures count { (self.old.pending_count ≤ self.new.pending_count) × (self.new.pending_count ≤ self.old.pending_count + 1) }
+        ensures behind { drop (self.old.pending_count + 1) self.new.pending ≡ drop (self.old.pending_count + 1) self.old.pending }
         ensures long { length self.new.pending ≡ length self.old.pending }
     {
         let out = self.job_pending;

@@ -1,7 +1,7 @@
 // A record's round and leader.
 ghost use Rattle.std.specs.Prelude.{◌≡◌, ℕ, List, Some};
 ghost use Rattle.model.specs.State.{larger, with_leader, with_round};
-ghost use Rattle.record.specs.Fields.{at_round};
+ghost use Rattle.record.specs.Fields.{at_round, under_leader};
 ghost use Rattle.record.specs.Views.{Memory, view};
 
 use crate::record::Record;
@@ -20,7 +20,8 @@ impl Record {
     }
 
     pub fn set_leader(&mut self, leader: Key)
-        ensures { (at : Memory) (c : List ℕ) (slot : ℕ) → view at c slot self.new ≡ with_leader (Some leader.bytes) (view at c slot self.old) }
+        ensures view { (at : Memory) (c : List ℕ) (slot : ℕ) → view at c slot self.new ≡ with_leader (Some leader.bytes) (view at c slot self.old) }
+        ensures stays { self.new ≡ under_leader leader self.old }
     {
         self.led = true;
         self.leader = leader;
