@@ -1,2 +1,3 @@
 pub mod InPlace
 pub mod Lending
+pub mod Shown
