@@ -1,4 +1,4 @@
--- The promises of every run, put together; and what a call adds to a run.
+-- The promises of every run, put together.
 use Rattle.enough.proofs.Enough.{brought}
 use Rattle.runs.proofs.Causes.{never_without_cause}
 use Rattle.runs.proofs.Given.{always_handed_in}

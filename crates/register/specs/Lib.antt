@@ -3,5 +3,4 @@ pub mod Keys
 pub mod Order
 pub mod Words
 pub mod ByteOrder
-pub mod CommitmentExactLemmas
-pub mod KeyExactLemmas
+pub mod Made

@@ -3,8 +3,7 @@ ghost use Rattle.register.specs.Order.{order};
 ghost use Rattle.std.specs.Ordering.{nat_cmp};
 ghost use Rattle.register.specs.ByteOrder.{order_reverses, order_ascends, order_ties, order_same};
 ghost use Rattle.std.proofs.Math.Path.{ap};
-ghost use Rattle.register.specs.CommitmentExactLemmas.{made};
-ghost use Rattle.register.specs.KeyExactLemmas;
+ghost use Rattle.register.specs.Made.{commitment_made, key_made};
 ghost use Rattle.std.proofs.Common.{rules};
 
 use crate::commitment::Commitment;
@@ -31,7 +30,7 @@ impl Ordered for Commitment {
 }
 
 impl Exact for Commitment {
-    ghost same = { unfold made in λ a b e. ap made (order_same a.bytes b.bytes e) };
+    ghost same = { unfold commitment_made in λ a b e. ap commitment_made (order_same a.bytes b.bytes e) };
 }
 
 impl Ordered for Key {
@@ -49,7 +48,7 @@ impl Ordered for Key {
 }
 
 impl Exact for Key {
-    ghost same = { unfold KeyExactLemmas.made in λ a b e. ap KeyExactLemmas.made (order_same a.bytes b.bytes e) };
+    ghost same = { unfold key_made in λ a b e. ap key_made (order_same a.bytes b.bytes e) };
 }
 
 impl Ordered for Index {

@@ -1,5 +1,5 @@
 // A shard file while it is read: each line adds to it.
-ghost use Rattle.std.specs.Prelude.{◌≡◌, ◌≤◌, IfOk, MatchResult};
+ghost use Rattle.std.specs.Prelude.{◌≡◌, ◌≤◌, [], IfOk, MatchResult};
 ghost use Rattle.shardfile.specs.Settled.{Settled};
 
 use crate::file::{Arrival, Complaint};
@@ -81,7 +81,13 @@ fn index_of(word: Option<&str>) -> Result<u16, Complaint> {
 }
 
 impl Draft {
-    pub fn new(heap: Global) -> Draft {
+    // Nothing is settled yet.
+    pub fn new(heap: Global) -> Draft
+        ensures choices { (result.hash ≡ None) × (result.scheme ≡ None) × (result.kind ≡ None) }
+        ensures limit { result.limit ≡ None }
+        ensures commitment { result.commitment ≡ None }
+        ensures arrivals { result.arrivals.items ≡ [] }
+    {
         Draft {
             hash: None,
             scheme: None,
