@@ -1,6 +1,6 @@
--- A run that meets the premises of the first promise: three keys, minimum two, one bad shard. Each good shard is the whole
--- blob. The one short completion is numbered 1, as many as participants less good shards, so the promise's bound is met.
--- Assumes nothing.
+-- A run that meets the premises of the first promise, and of the second for its first key: three keys, minimum two, one bad
+-- shard. Each good shard is the whole blob. The one short completion is numbered 1, as many as participants less good shards,
+-- so the first promise's bound is met. Assumes nothing.
 use Rattle.std.specs.Prelude.{ℕ, ◌-◌, List, [], ◌∷◌, ◌++◌, length, take, replicate, Some, None, Ok, Err}
 use Rattle.std.specs.Str.{bytes_eq}
 use Rattle.block.specs.declared.kind.Reading.{Reading}
@@ -12,7 +12,7 @@ use Rattle.model.specs.Calls.{Answer, answered, given, Call, discovery, shard, c
 use Rattle.model.specs.Histories.{Assignment, Event, Leads}
 use Rattle.model.specs.Intake.{ready}
 use Rattle.model.specs.Meaning.{Meaning, Roster}
-use Rattle.model.specs.Promises.{Enough}
+use Rattle.model.specs.Promises.{Blameless, Enough}
 use Rattle.model.specs.State.{Limits, State}
 use Rattle.model.specs.declared.answer.Outcome.TheVariants.{Held, Gain, Short, Rebuilt}
 use Rattle.model.specs.declared.answer.Reason.TheVariants.{BadPending}
@@ -103,3 +103,7 @@ abbrev pub ExampleStands : Type 0
 ExampleStands =
     (s : State) × Leads limits meaning assignment history s ×
     Enough limits meaning assignment history commitment (record { commitment = commitment; round = round }) (0 ∷ 1 ∷ [])
+
+-- a member that the second promise speaks of: the first key keeps to the rules in that history, while the third is reported
+abbrev pub BlamelessStands : Type 0
+BlamelessStands = Blameless limits meaning assignment history first_key
