@@ -18,6 +18,9 @@ WORDS = {"let", "module", "use", "elim", "in", "where", "abbrev", "unfoldable", 
 # words of the library that a lemma's name may join by a dash
 LIBRARY = {"take", "drop", "length", "map", "filter", "append", "cons", "set", "get_or", "get", "xor", "le", "lt", "suc", "zero", "some", "none", "fold", "sum", "take_more"}
 
+# declarations of a module with parameters are indented once
+IN_MODULE = 2
+
 # names that begin with a standard's letter and are no facts
 KEPT = {"R-after": "R_after", "RC-from": "RC_from"}
 
@@ -47,7 +50,7 @@ def declarations():
                 if "goal." in line or re.match(r"\s*(use|--)\b", line):
                     continue
                 m = DECLARED.match(line)
-                if not m or indent and not block and not in_module(path, indent):
+                if not m or indent and not block and indent != IN_MODULE:
                     continue
                 for name in m.group(2).split():
                     if name in WORDS or re.search(r"[=\"]", name):
@@ -57,11 +60,6 @@ def declarations():
                     if m.group(1) and "/specs/" in path and name[0].islower():
                         functions.add(snake(name).replace("-", "_"))
     return names, functions
-
-
-def in_module(path, indent):
-    """Declarations of a module with parameters are indented once."""
-    return indent == 2
 
 
 def snake(name):
