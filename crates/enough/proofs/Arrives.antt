@@ -1,6 +1,7 @@
 -- A shard call carries the record of a commitment on; a member's good shard at its own index has then contributed.
 use Rattle.std.proofs.Common.{◌≡◌, ℕ, Bool, true, false, cond, List, [], ◌∷◌, is_some, Some, None, Option, sym, refl, ap, ◌∙◌, subst, arith}
 use Rattle.std.proofs.lemmas.Bool.{both_ways, cond_both, eq-eqb}
+use Rattle.std.proofs.lemmas.Option.{same_Some}
 use Rattle.register.specs.Order.{order}
 use Rattle.rosters.specs.Sound.{index}
 use Rattle.scheme.specs.Pieces.{Indexed}
@@ -14,7 +15,7 @@ use Rattle.model.specs.State.{Limits, Phase, awaiting, cached, Rec, State, filed
 use Rattle.model.specs.Steps.{Ingested, Step, advanced, began, boxes_shard, by_phase, in_epoch, known_shard, shard_by, shard_of, stays, taken, takes_shard, too_early}
 use Rattle.model.specs.declared.answer.Outcome.TheVariants.{NoEpoch, Ignored, Boxed, NotBoxed, Gain, NoGain}
 use Rattle.runs.proofs.Boxes.{boxed-filled}
-use Rattle.runs.proofs.Entries.{by_option, found_key, never_some, some_same}
+use Rattle.runs.proofs.Entries.{by_option, found_key, never_some}
 use Rattle.runs.proofs.Rolls.{advanced_entry, intake_entry}
 use Rattle.runs.proofs.Ways.{shard_ways}
 use Rattle.enough.proofs.Draws.{Grown, advanced_grown, good_here, known, row_all, row-began, took}
@@ -42,7 +43,7 @@ module _ (limits : Limits) (m : Meaning) (a : Assignment) (c : List ℕ) (ep : �
   timely : (l : Option (List ℕ)) (o : Option ℕ) → o ≡ Some x.index → too_early limits m roster l o x.index ≡ false
   timely (Some l) o at = refl
   timely None None at = refl
-  timely None (Some place) at = rw (eq-eqb x.index place (sym (some_same place x.index at)))
+  timely None (Some place) at = rw (eq-eqb x.index place (sym (same_Some place x.index at)))
 
   module _ (handed : Hand peer x) where
     abbrev bring : Call
@@ -103,18 +104,18 @@ module _ (limits : Limits) (m : Meaning) (a : Assignment) (c : List ℕ) (ep : �
         (λ r at.
         cond_both (by_phase r.phase false r.verified) (stays limits m roster Ignored s) (in_epoch limits m roster (roster.keys r.round.epoch.0) (known_shard limits m roster peer x r s) s) FineHere
         (λ whole. unchanged (stays limits m roster Ignored s) boxes up refl
-        (λ q here _ _ _. subst (λ q. GivenTo q x.index) (some_same r q (sym at ∙ here)) (ignored_gives r.phase r.verified r.contributed x.index whole)))
+        (λ q here _ _ _. subst (λ q. GivenTo q x.index) (same_Some r q (sym at ∙ here)) (ignored_gives r.phase r.verified r.contributed x.index whole)))
         (λ _.
         by_option (λ o. FineHere (in_epoch limits m roster o (known_shard limits m roster peer x r s) s)) (roster.keys r.round.epoch.0)
         (λ none. unchanged (stays limits m roster NoEpoch s) boxes up refl
         (λ q here in_epoch_now knows _.
-        let same = some_same r q (sym at ∙ here) in
+        let same = same_Some r q (sym at ∙ here) in
         absurd (both_ways (is_some (roster.keys ep)) (ap is_some (ap roster.keys (sym (ap (λ q. q.round.epoch.0) same ∙ in_epoch_now)) ∙ none)) knows)))
         (λ ks knows.
         cond_both (too_early limits m roster r.leader (index peer ks) x.index) (boxes_shard limits m roster r.commitment peer x s) (takes_shard limits m roster ks peer x r s) FineHere
         (λ early. subst (λ d. FineHere (boxes_shard limits m roster d peer x s)) (sym (found_key filed_under c s.records r at))
         (boxing (λ q here in_epoch_now _ place.
-        let same = some_same r q (sym at ∙ here) in
+        let same = same_Some r q (sym at ∙ here) in
         let k = known a ep roster ks agrees (ap roster.keys (sym (ap (λ q. q.round.epoch.0) same ∙ in_epoch_now)) ∙ knows) in
         absurd (both_ways (too_early limits m roster r.leader (index peer ks) x.index) (timely r.leader (index peer ks) (ap (index peer) k.keys ∙ place)) early))))
         (λ _. taking r ks at knows))))

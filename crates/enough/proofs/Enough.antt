@@ -1,5 +1,6 @@
 -- Enough good shards bring the block: at least as many are in play as the minimum, and no more can be lost than are left.
 use Rattle.std.proofs.Common.{◌≡◌, ℕ, ◌+◌, ◌-◌, ◌<◌, ◌≤◌, Bool, true, false, leb, ◌⊎◌, List, [], ◌++◌, map, length, get_or, is_some, Some, None, Ok, Err, filter, Option, sym, refl, ap, ◌∙◌, subst, inl, inr, ⊎_elim, arith, length-append}
+use Rattle.std.proofs.lemmas.Option.{same_Some}
 use lib.ListN.{length-map}
 use Rattle.std.proofs.ByRecursion.{All-append, All-weaker}
 use Rattle.std.proofs.lemmas.Bool.{both_ways, cases_lt, cond_both}
@@ -18,7 +19,7 @@ use Rattle.model.specs.State.{Job, Limits, Phase, awaiting, cached, Rec, Shards,
 use Rattle.model.specs.Steps.{block_given, completed_by, completion_by, completion_of, step, unless_refused}
 use Rattle.model.specs.declared.answer.Refusal.{Refusal}
 use Rattle.model.specs.declared.answer.Refusal.TheVariants.{Malformed, NoBlock, Buffer}
-use Rattle.runs.proofs.Entries.{by_option, found_key, never_some, some_same}
+use Rattle.runs.proofs.Entries.{by_option, found_key, never_some}
 use Rattle.runs.proofs.Intakes.{completes_ways}
 use Rattle.runs.proofs.Rolls.{roll_record}
 use Rattle.runs.specs.Rolls.{entry_of}
@@ -219,7 +220,7 @@ module _ (limits : Limits) (m : Meaning) (roster : Roster) (s : State) (c : List
 -- the record that the roll speaks of
 recorded : (o : Option Rec) (entry : Entry) → option_map entry_of o ≡ Some entry → (r : Rec) × (o ≡ Some r) × (entry_of r ≡ entry)
 recorded None entry h = never_some entry _ h
-recorded (Some r) entry h = (r, refl, some_same (entry_of r) entry h)
+recorded (Some r) entry h = (r, refl, same_Some (entry_of r) entry h)
 
 pub brought : (limits : Limits) (m : Meaning) (a : Assignment) (h : List Event) (s : State) (roster : Roster) → Leads limits m a h s → Agrees a roster → EnoughBringTheBlock limits m a h (λ call. (step limits m roster call s).answer)
 brought limits m a h s roster leads agrees c entry places enough =

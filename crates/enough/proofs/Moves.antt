@@ -2,6 +2,7 @@
 use Rattle.std.proofs.Common.{◌≡◌, ℕ, Bool, true, false, ◌⊎◌, List, [], ◌∷◌, length, is_some, Some, None, Option, sym, refl, ap, ◌∙◌, subst, inl, inr, arith}
 use Rattle.std.proofs.lemmas.Slice.Eq.{bytes_eq-Decides}
 use Rattle.std.proofs.ByRecursion.{All-weaker}
+use Rattle.std.proofs.lemmas.Option.{same_Some}
 use Rattle.std.specs.List.{AllByRecursion}
 use Rattle.std.specs.Str.{bytes_eq}
 use Rattle.register.specs.Order.{order}
@@ -16,7 +17,7 @@ use Rattle.model.specs.Promises.{Completing, EndedAbove}
 use Rattle.model.specs.State.{Limits, Peer, Rec, State, filed_under, record_of}
 use Rattle.model.specs.Steps.{Step, advanced, all_taken, began, entered, replaced, wants}
 use Rattle.runs.proofs.Boxes.{Filled, drawn_brought}
-use Rattle.runs.proofs.Entries.{differ, entry_laws, replaced_ascends, replaced-found, replaced_others, some_same}
+use Rattle.runs.proofs.Entries.{differ, entry_laws, replaced_ascends, replaced-found, replaced_others}
 use Rattle.enough.proofs.Draws.{Grown, SoundHere, advanced_grown, good_here, known, row_all, row-began}
 use Rattle.enough.proofs.Held.{GivenTo, Settled}
 use Rattle.enough.proofs.Live.{Live, next}
@@ -84,7 +85,7 @@ module _ (limits : Limits) (m : Meaning) (a : Assignment) (c : List ℕ) (ep : �
           boxes = boxes;
           ascend = replaced_ascends filed_under x s.records up;
           moved = λ r now in_epoch_now.
-              let is = some_same x r (sym found ∙ now) in
+              let is = same_Some x r (sym found ∙ now) in
               let old_ep : old.round.epoch.0 ≡ ep = sym same ∙ ap (λ r. r.round.epoch.0) is ∙ in_epoch_now in
               subst (λ o. Moved o answer r) (sym at) (old_ep, λ known live. subst (λ r. Live limits m a c ep Hand (event answer ∷ es) r) is (goes old_ep known live));
         }
@@ -100,7 +101,7 @@ module _ (limits : Limits) (m : Meaning) (a : Assignment) (c : List ℕ) (ep : �
           boxes = boxes;
           ascend = (entry_laws filed_under).put_ascends x s.records up;
           moved = λ r now in_epoch_now.
-              let is = some_same x r (sym found ∙ now) in
+              let is = same_Some x r (sym found ∙ now) in
               subst (λ o. Moved o answer r) (sym at) (subst (λ r. Live limits m a c ep Hand [] r) is (goes (ap (λ r. r.round.epoch.0) is ∙ in_epoch_now)));
         }
 

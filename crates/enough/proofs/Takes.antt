@@ -2,17 +2,19 @@
 use Rattle.std.proofs.Common.{◌≡◌, ℕ, ◌<◌, ◌≤◌, Bool, true, false, cond, eqb, List, [], ◌∷◌, ◌++◌, length, get_or, set, Some, None, Option, Equal, sym, refl, ap, ◌∙◌, arith, length-set}
 use Rattle.std.proofs.ByRecursion.{All-push, All-weaker}
 use Rattle.std.proofs.lemmas.Bool.{and_parts, both_ways, cond_both, eq-eqb, eqb-true}
+use Rattle.std.proofs.lemmas.Option.{same_Some}
 use Rattle.std.specs.Str.{bytes_eq}
 use Rattle.register.specs.ByteOrder.{order_same}
 use Rattle.register.specs.Order.{order}
 use Rattle.rosters.specs.Sound.{index}
 use Rattle.scheme.specs.Pieces.{Indexed}
+use Rattle.table.proofs.Carried.{all_look, all_put}
 use Rattle.table.proofs.Lawful.{found_exactly}
 use Rattle.model.specs.Intake.{Class, assigned, owned, stray, Taken, arrives, checks, classed, dropped, from_member, index_of, is_assigned, leads, led, received_at, rejected, sender_of, unless_contributed, unless_received, verifies, waits, with_pending, with_received}
 use Rattle.model.specs.State.{Phase, awaiting, cached, Rec, Sent, Shards, with_phase}
 use Rattle.model.specs.declared.answer.Reason.{Reason}
 use Rattle.model.specs.declared.answer.Reason.TheVariants.{Stranger, WrongIndex, Equivocation, BadAssigned}
-use Rattle.runs.proofs.Entries.{all_look, all_put, by_option, never_some, number_laws, number_same, some_same}
+use Rattle.runs.proofs.Entries.{by_option, never_some, number_laws, number_same}
 use Rattle.runs.proofs.Places.{index_below}
 use Rattle.runs.proofs.Records.{sent_at}
 use Rattle.runs.proofs.Tallies.{flag, flag_kept, flag_raised, tally, tally_append}
@@ -32,7 +34,7 @@ module _ (good : Indexed → Bool) (minimum : ℕ) (keys : List (List ℕ)) (own
       let inside : i < length flags = omega (arith, k.long) in
       let none : tally sent_at i w.pending ≡ 0 = let t = k.tallied i in let b : flag (get_or flags i false) ≡ 0 = rw off in omega arith in
       let new = all_with (Pending good minimum keys own Hand) (λ x. i ≡ sent_at x → ⊥) (λ x. order x.sender sender ≡ Equal → ⊥)
-      (λ x h n q. n (some_same i (sent_at x) (sym place ∙ ap (λ a. index a keys) (sym (order_same x.sender sender q)) ∙ h.place)))
+      (λ x h n q. n (same_Some i (sent_at x) (sym place ∙ ap (λ a. index a keys) (sym (order_same x.sender sender q)) ∙ h.place)))
       w.pending k.pending (none_here sent_at i w.pending none) in
       record {
         long = length-set flags i true ∙ k.long;
@@ -146,7 +148,7 @@ module _ (good : Indexed → Bool) (minimum : ℕ) (keys : List (List ℕ)) (own
           (λ cl. Took lost sender s (with_phase (awaiting w) r) (arrives good own sender s (with_phase (awaiting w) r) (awaiting w) cl))
           (λ is. unless_got _ (λ off. waited off (at ∙ ap Some (sym (eqb-true s.index place is)))))
           (λ not. unmoved_led (with_phase (awaiting w) r) r.leader k
-          (λ here _. absurd (both_ways (eqb s.index place) not (eq-eqb s.index place (some_same s.index place (sym here ∙ at)))))))
+          (λ here _. absurd (both_ways (eqb s.index place) not (eq-eqb s.index place (same_Some s.index place (sym here ∙ at)))))))
         where
           by_own : (o : Option ℕ) → own ≡ o → is_assigned o r.leader sender place s.index ≡ true → r.verified ≡ true → get_or r.contributed s.index false ≡ false → index sender keys ≡ Some s.index
           by_own None e is on off = at ∙ ap Some (sym (eqb-true s.index place (and_parts (leads r.leader sender) (eqb s.index place) is).1))
@@ -160,7 +162,7 @@ module _ (good : Indexed → Bool) (minimum : ℕ) (keys : List (List ℕ)) (own
 
           at_own : (o : Option ℕ) → own ≡ o → is_assigned o r.leader sender place s.index ≡ true → (i : ℕ) → own ≡ Some i → s.index ≡ i
           at_own None e is i f = never_some i (s.index ≡ i) (sym e ∙ f)
-          at_own (Some j) e is i f = eqb-true s.index j is ∙ some_same j i (sym e ∙ f)
+          at_own (Some j) e is i f = eqb-true s.index j is ∙ same_Some j i (sym e ∙ f)
 
     -- behind the block nothing is asked of a record any more
     after : (r : Rec) (blob : List ℕ) → ((i : ℕ) → tally itself i lost ≤ 1) → (cl : Class) →

@@ -8,10 +8,11 @@ use Rattle.std.specs.Str.{bytes_eq}
 use Rattle.register.specs.Order.{order}
 use Rattle.rosters.specs.Sound.{index}
 use Rattle.scheme.specs.Pieces.{Indexed}
+use Rattle.table.proofs.Carried.{all_changed, all_look}
 use Rattle.table.specs.Laws.{look}
 use Rattle.model.specs.Boxes.{all_drawn, all_left, box_of, boxed, boxes_with, drawn_from, emptied, left_from, renewed, sent_by, stands_at, turned, wanted_by, with_box}
 use Rattle.model.specs.State.{Early, Peer, Sent, key_of}
-use Rattle.runs.proofs.Entries.{all_changed, all_look, by_option, found_key}
+use Rattle.runs.proofs.Entries.{by_option, found_key}
 
 pub same_bytes : (xs ys : List ℕ) → bytes_eq xs ys ≡ true → xs ≡ ys
 same_bytes xs ys h = (bytes_eq-Decides xs ys).0 h

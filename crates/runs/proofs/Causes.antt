@@ -3,10 +3,12 @@ use Rattle.std.proofs.Common.{◌≡◌, ℕ, Bool, true, not, List, [], ◌∷�
 use Rattle.std.proofs.ByRecursion.{All-weaker}
 use Rattle.std.proofs.lemmas.Slice.Eq.{bytes_eq-Decides}
 use Rattle.std.proofs.lemmas.Bool.{both_ways, cond_both, not-true}
+use Rattle.std.proofs.lemmas.Option.{same_Some}
 use Rattle.std.specs.List.{AllByRecursion}
 use Rattle.std.specs.Str.{bytes_eq}
 use Rattle.rosters.specs.Sound.{index}
 use Rattle.scheme.specs.Pieces.{Indexed}
+use Rattle.table.proofs.Carried.{all_look}
 use Rattle.table.proofs.Lawful.{found_exactly}
 use Rattle.model.specs.Calls.{Answer, refused, answered, changed_peers, given, told}
 use Rattle.model.specs.Histories.{Announced, Assignment, Event, HandedIn, Leads}
@@ -15,7 +17,7 @@ use Rattle.model.specs.Jobs.{failing, job_in}
 use Rattle.model.specs.Meaning.{Meaning, good_for}
 use Rattle.model.specs.Promises.{Blameless, NobodyWithoutCause, Spares}
 use Rattle.model.specs.State.{Job, Limits, Rec, Sent, State}
-use Rattle.runs.proofs.Entries.{all_look, number_laws, number_same, some_same}
+use Rattle.runs.proofs.Entries.{number_laws, number_same}
 use Rattle.runs.proofs.Intakes.{intake_ways}
 use Rattle.runs.proofs.Places.{index_same, stray_not_at, stray_not_own}
 use Rattle.runs.proofs.Reached.{Keeps, Reports, Seated, reached}
@@ -48,7 +50,7 @@ module _ (limits : Limits) (m : Meaning) (a : Assignment) (h : List Event) (k : 
         stranger = λ none same. both_ways (is_some (index k (a.keys e))) (ap is_some (here same None none)) (blameless.member c e fine.announced);
         strays = λ place at class same.
             ⊎_elim
-            (λ (p : index k (a.keys e) ≡ Some s.index). stray_not_at r.leader sender place s.index own class (some_same s.index place (sym p ∙ here same (Some place) at)))
+            (λ (p : index k (a.keys e) ≡ Some s.index). stray_not_at r.leader sender place s.index own class (same_Some s.index place (sym p ∙ here same (Some place) at)))
             (λ (p : a.own e ≡ Some s.index). stray_not_own r.leader sender place s.index own class (seat.own_is ∙ p))
             (blameless.placed c e s fine.announced (mine same));
         equivocates = λ w x early at differ same.

@@ -9,13 +9,14 @@ use Rattle.block.specs.declared.kind.Reading.{Reading}
 use Rattle.register.specs.Commitments.{config_at, config_of}
 use Rattle.register.specs.Order.{order}
 use Rattle.scheme.specs.Pieces.{Indexed}
+use Rattle.table.proofs.Carried.{all_look}
 use Rattle.model.specs.Calls.{Call, discovery, notarization, shard, completion, peer_change, block_look_up, verified_look_up, block_in, phase_of, turned_down}
 use Rattle.model.specs.Histories.{Announced, Assignment, Event, HandedIn, Leads}
 use Rattle.model.specs.Meaning.{Meaning, Roster, fitted_for}
 use Rattle.model.specs.Promises.{BlocksWereHandedIn, Gives, GoodShard, HandedInBlock}
 use Rattle.model.specs.State.{Limits, Rec, State, filed_under, record_of}
 use Rattle.model.specs.Steps.{Step, block_given, step, unless_refused}
-use Rattle.runs.proofs.Entries.{all_look, by_option, found_key}
+use Rattle.runs.proofs.Entries.{by_option, found_key}
 use Rattle.runs.proofs.Intakes.{by_phases}
 use Rattle.runs.proofs.Invariants.{records_fine}
 use Rattle.runs.proofs.Records.{Checked, FineRecord, Holds, OpenedFrom}
@@ -55,9 +56,6 @@ module _ (limits : Limits) (m : Meaning) (a : Assignment) (h : List Event) where
   abbrev A : List ℕ → ℕ → Type 0
   A = Announced h
 
-  abbrev FineHere : Rec → Type 0
-  FineHere = FineRecord limits m a H A
-
   module _ (s : State) (leads : Leads limits m a h s) where
     block_handed_in : (c : List ℕ) (r : Rec) (blob : List ℕ) → record_of c s ≡ Some r → OpenedFrom limits m a H A c r.round.epoch.0 blob → HandedInBlock limits m a h c (block_in blob)
     block_handed_in c r blob at from =
@@ -86,7 +84,7 @@ module _ (limits : Limits) (m : Meaning) (a : Assignment) (h : List Event) where
         by_option (λ o. record_of c s ≡ o → Gives limits m a h (block_look_up c room) (block_given limits m roster s (phase_of o)).answer) (record_of c s)
         (λ _ _. tt)
         (λ r at _.
-        let fine = all_look order filed_under FineHere c s.records r at (records_fine limits m a h s leads) in
+        let fine = all_look order filed_under (FineRecord limits m a H A) c s.records r at (records_fine limits m a h s leads) in
         let holds = subst (λ d. Holds limits m a H A d r.round.epoch.0 r.contributed r.phase) (found_key filed_under c s.records r at) fine.holds in
         by_phases (λ p. Holds limits m a H A c r.round.epoch.0 r.contributed p → Gives limits m a h (block_look_up c room) (block_given limits m roster s (Some p)).answer) r.phase
         (λ _ _ _. tt) (λ blob _ from. block_handed_in c r blob at from) holds)

@@ -1,6 +1,7 @@
 -- Where keys stand among members, and what the class of a shard says of its index.
 use Rattle.std.proofs.Common.{◌≡◌, ℕ, suc, ◌<◌, Bool, true, false, cond, T, eqb, ltb, List, [], ◌∷◌, length, Some, None, Option, Ordering, Less, Equal, Greater, sym, refl, ap, ◌∙◌, subst, arith}
 use Rattle.std.proofs.lemmas.Bool.{and_parts, eqb-false, eqb-true, ltb-true}
+use Rattle.std.proofs.lemmas.Option.{same_Some}
 use Rattle.std.specs.Option.{option_map}
 use Rattle.std.specs.Ordering.{is_eq}
 use Rattle.register.specs.ByteOrder.{order_same}
@@ -8,7 +9,7 @@ use Rattle.register.specs.Order.{order}
 use Rattle.rosters.specs.Roster.{Fair}
 use Rattle.rosters.specs.Sound.{index}
 use Rattle.model.specs.Intake.{assigned, owned, stray, classed, is_assigned, leads}
-use Rattle.runs.proofs.Entries.{never_some, some_same}
+use Rattle.runs.proofs.Entries.{never_some}
 
 holds : (b : Bool) → T b → b ≡ true
 holds true h = refl
@@ -20,9 +21,9 @@ is_equal Equal h = refl
 is_equal Greater h = cc
 
 step-below : (b : Bool) (o : Option ℕ) (i n : ℕ) → cond b (Some 0) (option_map suc o) ≡ Some i → ((j : ℕ) → o ≡ Some j → j < n) → i < suc n
-step-below true o i n h rest = let z = some_same 0 i h in omega arith
+step-below true o i n h rest = let z = same_Some 0 i h in omega arith
 step-below false None i n h rest = never_some i (i < suc n) h
-step-below false (Some j) i n h rest = let z = some_same (suc j) i h in let l = rest j refl in omega arith
+step-below false (Some j) i n h rest = let z = same_Some (suc j) i h in let l = rest j refl in omega arith
 
 -- a member's place is below the number of members
 pub index_below : (k : List ℕ) (ks : List (List ℕ)) (i : ℕ) → index k ks ≡ Some i → i < length ks
@@ -30,7 +31,7 @@ index_below k [] i h = never_some i (i < 0) h
 index_below k (l ∷ ks) i h = step-below (is_eq (order l k)) (index k ks) i (length ks) h (λ j e. index_below k ks j e)
 
 zero-suc : (i : ℕ) (G : Type 0) → Some 0 ≡ Some (suc i) → G
-zero-suc i G h = absurd (let z = some_same 0 (suc i) h in omega arith)
+zero-suc i G h = absurd (let z = same_Some 0 (suc i) h in omega arith)
 
 step_same : (p q : Bool) (o u : Option ℕ) (i : ℕ) (x y z : List ℕ) → (p ≡ true → z ≡ x) → (q ≡ true → z ≡ y) → cond p (Some 0) (option_map suc o) ≡ Some i → cond q (Some 0) (option_map suc u) ≡ Some i → ((j : ℕ) → o ≡ Some j → u ≡ Some j → x ≡ y) → x ≡ y
 step_same true true o u i x y z p q e f rest = sym (p refl) ∙ q refl
@@ -41,7 +42,7 @@ step_same false true (Some b) u i x y z p q e f rest = zero-suc b (x ≡ y) (f �
 step_same false false None u i x y z p q e f rest = never_some i (x ≡ y) e
 step_same false false (Some b) None i x y z p q e f rest = never_some i (x ≡ y) f
 step_same false false (Some b) (Some d) i x y z p q e f rest =
-    let s : b ≡ d = let m = some_same (suc b) (suc d) (e ∙ sym f) in omega arith in
+    let s : b ≡ d = let m = same_Some (suc b) (suc d) (e ∙ sym f) in omega arith in
     rest b refl (ap Some (sym s))
 
 -- two keys at one place are the same
@@ -56,7 +57,7 @@ index_same k l (x ∷ ks) i e f =
 pub own_below : (ks : List (List ℕ)) (own : Option ℕ) (i : ℕ) → Fair (Some ks) own → own ≡ Some i → i < length ks
 own_below ks None i fair h = never_some i (i < length ks) h
 own_below ks (Some j) i fair h =
-    let z = some_same j i h in
+    let z = same_Some j i h in
     let l = ltb-true j (length ks) (holds (ltb j (length ks)) fair.2) in
     omega arith
 
@@ -78,11 +79,11 @@ stray_only false false h = (refl, refl)
 module _ (leader : Option (List ℕ)) (sender : List ℕ) (place i : ℕ) where
   assigned_own : (own : Option ℕ) (o : ℕ) → own ≡ Some o → is_assigned own leader sender place i ≡ true → i ≡ o
   assigned_own None o h t = never_some o (i ≡ o) h
-  assigned_own (Some n) o h t = eqb-true i n t ∙ some_same n o h
+  assigned_own (Some n) o h t = eqb-true i n t ∙ same_Some n o h
 
   not_assigned_own : (own : Option ℕ) → is_assigned own leader sender place i ≡ false → own ≡ Some i → ⊥
   not_assigned_own None f h = never_some i ⊥ h
-  not_assigned_own (Some n) f h = eqb-false i n f (sym (some_same n i h))
+  not_assigned_own (Some n) f h = eqb-false i n f (sym (same_Some n i h))
 
   assigned_place : is_assigned None leader sender place i ≡ true → i ≡ place
   assigned_place t = eqb-true i place (and_parts (leads leader sender) (eqb i place) t).1

@@ -7,6 +7,7 @@ use Rattle.register.specs.Order.{order}
 use Rattle.register.specs.declared.counters.Round.{Round}
 use Rattle.rosters.specs.Roster.{Fair}
 use Rattle.scheme.specs.Pieces.{Indexed}
+use Rattle.table.proofs.Carried.{all_changed, all_look, all_put, all_without}
 use Rattle.model.specs.Boxes.{all_drawn}
 use Rattle.model.specs.Calls.{Answer, refused, answered, changed_peers, given, told, Call, discovery, notarization, shard, completion, peer_change, block_look_up, verified_look_up, Report, phase_of, turned_down}
 use Rattle.model.specs.Histories.{Agrees, Assignment, Brings, Counts, Entry, Event, Leads, Names}
@@ -17,7 +18,7 @@ use Rattle.model.specs.State.{Job, Limits, Phase, awaiting, cached, Rec, Sent, S
 use Rattle.model.specs.Steps.{Ingested, Step, advanced, all_taken, began, block_given, box_intake, completion_of, done, entered, observes, outlives, replaced, reported, same_epoch, shard_of, step, taken, unless_refused, wants, within_window}
 use Rattle.model.specs.declared.answer.Reason.{Reason}
 use Rattle.runs.proofs.Boxes.{Filled, boxed-filled, drawn_brought, left-filled, renewed-filled}
-use Rattle.runs.proofs.Entries.{all_changed, all_look, all_put, all_trimmed, all_without, by_option, found_key}
+use Rattle.runs.proofs.Entries.{all_trimmed, by_option, found_key}
 use Rattle.runs.proofs.Rolls.{intake_entry}
 use Rattle.runs.proofs.Ways.{AnnouncedWays, box_ways, completion_ways, discovery_ways, notarization_ways, shard_ways}
 

@@ -5,7 +5,8 @@ use Rattle.std.specs.Option.{option_map}
 use Rattle.register.specs.Order.{order}
 use Rattle.register.specs.declared.counters.Round.{Round}
 use Rattle.scheme.specs.Pieces.{Indexed}
-use Rattle.table.specs.Laws.{Ascends}
+use Rattle.table.proofs.Carried.{changed_alike, changed_same, length-changed, length-put, map-changed, map-look, map-put, map-without, without_at_most}
+use Rattle.table.specs.Laws.{Ascends, look}
 use Rattle.table.specs.Table.{changed, put}
 use Rattle.model.specs.Boxes.{all_drawn, all_left}
 use Rattle.model.specs.Calls.{refused, answered, Call, discovery, notarization, shard, completion, peer_change, block_look_up, verified_look_up, Report, Rooms, phase_of, turned_down}
@@ -51,6 +52,10 @@ module _ (limits : Limits) (m : Meaning) (roster : Roster) where
 pub advanced_entry : (i : Ingested) → entry_of (advanced i) ≡ entry_of i.rec
 advanced_entry i = cond_both i.gained (tries i.rec) i.rec (λ r. entry_of r ≡ entry_of i.rec) (λ _. tries_entry i.rec) (λ _. refl)
 
+-- what is found among the entries is the entry of the record that is found
+roll_look : (c : List ℕ) (rs : List Rec) → on_roll c (map entry_of rs) ≡ option_map entry_of (look order filed_under c rs)
+roll_look c rs = map-look order filed_under order commitment_of entry_of c c rs (λ _. refl)
+
 -- the roll after a call, and what holds of the records then
 pub record Follows (window : ℕ) (call : Call) (s : State) (t : Step) : Type 0 where
   pub follows : fed window t.answer call (map entry_of s.records) ≡ map entry_of t.state.records
@@ -71,27 +76,27 @@ module _ (limits : Limits) (m : Meaning) (roster : Roster) (s : State) (up : Asc
 
   stood : (o : Outcome) (ps : List Peer) (rs : List Report) (a : Option Action) (r x : Rec) → says_held o ≡ true → record_of c s ≡ Some r → entry_of x ≡ raised round (entry_of r) → Announcing (record { state = record { records = replaced x s.records; peers = ps }; answer = answered o rs a })
   stood o ps rs a r x held at same =
-      let found : on_roll c (map entry_of s.records) ≡ Some (entry_of r) = Entries.map-look order commitment_of entry_of c s.records ∙ ap (option_map entry_of) at in
+      let found : on_roll c (map entry_of s.records) ≡ Some (entry_of r) = roll_look c s.records ∙ ap (option_map entry_of) at in
       let key : c ≡ x.commitment = sym (Entries.found_key filed_under c s.records r at) ∙ ap commitment_of (sym same) in
-      let long : length (replaced x s.records) ≤ limits.window = subst (λ n. n ≤ limits.window) (sym (Entries.changed-length order filed_under (λ _. x) x.commitment s.records)) few in
+      let long : length (replaced x s.records) ≤ limits.window = subst (λ n. n ≤ limits.window) (sym (length-changed order filed_under (λ _. x) x.commitment s.records)) few in
       let whole = Entries.trimmed_few round_of filed_under limits.window (replaced x s.records) long in
       record {
         follows =
             simp (held, found)
-            (Entries.changed_alike order commitment_of (raised round) (λ _. entry_of x) c (map entry_of s.records) (entry_of r) found (sym same) ∙ ap (λ k. changed order commitment_of (λ _. entry_of x) k (map entry_of s.records)) key ∙ sym (Entries.map-changed order commitment_of entry_of (λ _. x) (λ _. entry_of x) x.commitment s.records (λ _. refl)) ∙ ap (map entry_of) (sym whole));
+            (changed_alike order commitment_of (raised round) (λ _. entry_of x) c (map entry_of s.records) (entry_of r) found (sym same) ∙ ap (λ k. changed order commitment_of (λ _. entry_of x) k (map entry_of s.records)) key ∙ sym (map-changed order filed_under order commitment_of entry_of (λ _. x) (λ _. entry_of x) x.commitment x.commitment s.records (λ _. refl) (λ _. refl)) ∙ ap (map entry_of) (sym whole));
         ascend = subst (Ascends order filed_under) (sym whole) (Entries.replaced_ascends filed_under x s.records up);
         within = subst (λ rs. length rs ≤ limits.window) (sym whole) long;
       }
 
   admitted : (o : Outcome) (ps : List Peer) (rs : List Report) (a : Option Action) (x : Rec) → says_held o ≡ true → record_of c s ≡ None → entry_of x ≡ record { commitment = c; round = round } → Announcing (record { state = record { records = put order filed_under x s.records; peers = ps }; answer = answered o rs a })
   admitted o ps rs a x held at same =
-      let found : on_roll c (map entry_of s.records) ≡ None = Entries.map-look order commitment_of entry_of c s.records ∙ ap (option_map entry_of) at in
+      let found : on_roll c (map entry_of s.records) ≡ None = roll_look c s.records ∙ ap (option_map entry_of) at in
       let rose = (Entries.entry_laws filed_under).put_ascends x s.records up in
-      let most = Entries.put_at_most order filed_under x s.records in
+      let most = length-put order filed_under x s.records in
       record {
         follows =
             simp (held, found)
-            (ap (λ e. trimmed Rattle.model.specs.Histories.round_of commitment_of limits.window (put order commitment_of e (map entry_of s.records))) (sym same) ∙ ap (trimmed Rattle.model.specs.Histories.round_of commitment_of limits.window) (sym (Entries.map-put order commitment_of entry_of x s.records)) ∙ sym (Entries.map-trimmed Rattle.model.specs.Histories.round_of commitment_of entry_of limits.window (put order filed_under x s.records)));
+            (ap (λ e. trimmed Rattle.model.specs.Histories.round_of commitment_of limits.window (put order commitment_of e (map entry_of s.records))) (sym same) ∙ ap (trimmed Rattle.model.specs.Histories.round_of commitment_of limits.window) (sym (map-put order filed_under order commitment_of entry_of x s.records (λ _. refl))) ∙ sym (Entries.map-trimmed Rattle.model.specs.Histories.round_of commitment_of entry_of limits.window (put order filed_under x s.records)));
         ascend = Entries.trimmed_ascends round_of filed_under limits.window (put order filed_under x s.records) rose;
         within = Entries.trimmed-length round_of filed_under limits.window (put order filed_under x s.records) rose (omega arith);
       }
@@ -142,11 +147,11 @@ module _ (limits : Limits) (m : Meaning) (roster : Roster) (s : State) (up : Asc
   kept : (c : List ℕ) (r x : Rec) → record_of c s ≡ Some r → entry_of x ≡ entry_of r → Same (replaced x s.records)
   kept c r x at same =
       let key : x.commitment ≡ c = ap commitment_of same ∙ Entries.found_key filed_under c s.records r at in
-      let found : on_roll x.commitment (map entry_of s.records) ≡ Some (entry_of r) = ap (λ k. on_roll k (map entry_of s.records)) key ∙ Entries.map-look order commitment_of entry_of c s.records ∙ ap (option_map entry_of) at in
+      let found : on_roll x.commitment (map entry_of s.records) ≡ Some (entry_of r) = ap (λ k. on_roll k (map entry_of s.records)) key ∙ roll_look c s.records ∙ ap (option_map entry_of) at in
       record {
-        follows = sym (Entries.map-changed order commitment_of entry_of (λ _. x) (λ _. entry_of x) x.commitment s.records (λ _. refl) ∙ Entries.changed_same order commitment_of (λ _. entry_of x) x.commitment (map entry_of s.records) (entry_of r) found same);
+        follows = sym (map-changed order filed_under order commitment_of entry_of (λ _. x) (λ _. entry_of x) x.commitment x.commitment s.records (λ _. refl) (λ _. refl) ∙ changed_same order commitment_of (λ _. entry_of x) x.commitment (map entry_of s.records) (entry_of r) found same);
         ascend = Entries.replaced_ascends filed_under x s.records up;
-        within = subst (λ n. n ≤ limits.window) (sym (Entries.changed-length order filed_under (λ _. x) x.commitment s.records)) few;
+        within = subst (λ n. n ≤ limits.window) (sym (length-changed order filed_under (λ _. x) x.commitment s.records)) few;
       }
 
   shard_same : (c peer : List ℕ) (x : Indexed) → Same (shard_of limits m roster c peer x s).state.records
@@ -177,9 +182,9 @@ module _ (limits : Limits) (m : Meaning) (roster : Roster) (s : State) (up : Asc
             record { follows = same.follows; ascend = same.ascend; within = same.within };
         fault = λ _ _ _.
             record {
-              follows = sym (Entries.map-without order commitment_of entry_of c s.records);
+              follows = sym (map-without order filed_under order commitment_of entry_of c c s.records (λ _. refl));
               ascend = (Entries.entry_laws filed_under).without_ascends c s.records up;
-              within = let h = Entries.without_at_most order filed_under c s.records in omega arith;
+              within = let h = without_at_most order filed_under c s.records in omega arith;
             };
       }))
 
@@ -239,4 +244,4 @@ module _ (limits : Limits) (m : Meaning) (a : Assignment) (h : List Event) (s : 
 
   -- what the roll has of a commitment is its record's
   pub roll_record : (c : List ℕ) → on_roll c (roll limits.window h) ≡ option_map entry_of (record_of c s)
-  roll_record c = ap (on_roll c) roll_follows ∙ Entries.map-look order commitment_of entry_of c s.records
+  roll_record c = ap (on_roll c) roll_follows ∙ roll_look c s.records

@@ -1,10 +1,11 @@
 -- The laws of a table.
 use Rattle.std.proofs.Common.{◌≡◌, ℕ, zero, suc, ◌<◌, List, [], ◌∷◌, length, get_or, Some, None, Ordering, Less, Equal, sym, refl, ap, ◌∙◌, le_of_suc-le-suc, not-suc-le-zero}
-use Rattle.std.proofs.ByRecursion.{All-get_or, All-weaker}
+use Rattle.std.proofs.ByRecursion.{All-from_get_or, All-get_or, All-weaker}
 use Rattle.std.specs.Option.{option_map}
 use Rattle.std.specs.List.{AllByRecursion}
-use Rattle.table.specs.Laws.{Ascends, look, Differ, Keeps, Laws, FoundExactly}
+use Rattle.table.specs.Laws.{Ascends, look, Differ, Laws, FoundExactly}
 use Rattle.table.specs.Table.{pick, put, without, changed}
+use Rattle.table.proofs.Carried.{all_changed, all_put, all_without, look_equal}
 use Rattle.table.proofs.Orders.{by_order, Lawful, itself, above, below}
 use Rattle.table.proofs.Search.{changed_found, found_looks}
 
@@ -15,6 +16,11 @@ module _ {K E : Type 0} (order : K → K → Ordering) (key : E → K) (laws : L
   all_found (x ∷ xs) (suc i) d up h =
       let less = All-get_or (λ y. order (key x) (key y) ≡ Less) xs i d (le_of_suc-le-suc h) up.0 in
       rw less (all_found xs i d up.1 (le_of_suc-le-suc h))
+
+  -- each entry of an ascending list is found under its key
+  pub all_looks : (xs : List E) → Ascends order key xs → AllByRecursion (λ y. look order key (key y) xs ≡ Some y) xs
+  all_looks [] up = tt
+  all_looks (x ∷ xs) up = All-from_get_or (λ y. look order key (key y) (x ∷ xs) ≡ Some y) (x ∷ xs) x (λ i h. all_found (x ∷ xs) i x up h)
 
   once : (xs : List E) (i j : ℕ) (d : E) → Ascends order key xs → i < length xs → j < length xs → order (key (get_or xs i d)) (key (get_or xs j d)) ≡ Equal → i ≡ j
   once [] i j d up hi hj e = absurd (not-suc-le-zero hi)
@@ -32,22 +38,6 @@ module _ {K E : Type 0} (order : K → K → Ordering) (key : E → K) (laws : L
       (λ l. simp l (put_found e xs (simp l at h)))
       (λ q. let n = simp q at h in cc)
       (λ m. simp (m, itself order laws (key e)))
-
-  all_put : (P : E → Type 0) (e : E) (xs : List E) → P e → AllByRecursion P xs → AllByRecursion P (put order key e xs)
-  all_put P e [] h all = (h, tt)
-  all_put P e (x ∷ xs) h all =
-      by_order (order (key x) (key e))
-      (λ l. simp l (all.0, all_put P e xs h all.1))
-      (λ q. simp q all)
-      (λ m. simp m (h, all))
-
-  all_without : (P : E → Type 0) (k : K) (xs : List E) → AllByRecursion P xs → AllByRecursion P (without order key k xs)
-  all_without P k [] all = tt
-  all_without P k (x ∷ xs) all =
-      by_order (order (key x) k)
-      (λ l. simp l (all.0, all_without P k xs all.1))
-      (λ q. simp q all.1)
-      (λ m. simp m all)
 
   -- nothing is found below the first key
   none_below : (k : K) (xs : List E) → AllByRecursion (λ y. order k (key y) ≡ Less) xs → look order key k xs ≡ None
@@ -77,7 +67,7 @@ module _ {K E : Type 0} (order : K → K → Ordering) (key : E → K) (laws : L
   put_ascends e [] up = (tt, tt)
   put_ascends e (x ∷ xs) up =
       by_order (order (key x) (key e))
-      (λ l. simp l (all_put (λ y. order (key x) (key y) ≡ Less) e xs l up.0, put_ascends e xs up.1))
+      (λ l. simp l (all_put order key (λ y. order (key x) (key y) ≡ Less) e xs l up.0, put_ascends e xs up.1))
       (λ q. simp q up)
       (λ m.
       let e-x = below order laws (key x) (key e) m in
@@ -107,42 +97,35 @@ module _ {K E : Type 0} (order : K → K → Ordering) (key : E → K) (laws : L
   without_ascends k [] up = tt
   without_ascends k (x ∷ xs) up =
       by_order (order (key x) k)
-      (λ l. simp l (all_without (λ y. order (key x) (key y) ≡ Less) k xs up.0, without_ascends k xs up.1))
+      (λ l. simp l (all_without order key (λ y. order (key x) (key y) ≡ Less) k xs up.0, without_ascends k xs up.1))
       (λ q. simp q up.1)
       (λ m. simp m up)
 
-  module _ (f : E → E) (keeps : Keeps order key f) where
-    all_changed : (k : K) (a : K) (xs : List E) → AllByRecursion (λ y. order a (key y) ≡ Less) xs → AllByRecursion (λ y. order a (key y) ≡ Less) (changed order key f k xs)
-    all_changed k a [] all = tt
-    all_changed k a (x ∷ xs) all =
-        by_order (order (key x) k)
-        (λ l. simp l (all.0, all_changed k a xs all.1))
-        (λ q. simp q (ap (order a) (keeps x) ∙ all.0, all.1))
-        (λ m. simp m all)
+  -- a change that keeps the key of the entry that it finds
+  module _ (f : E → E) (k : K) (keeps : (x : E) → order (key x) k ≡ Equal → key (f x) ≡ key x) where
+    pub changed_own : (xs : List E) → look order key k (changed order key f k xs) ≡ option_map f (look order key k xs)
+    changed_own [] = refl
+    changed_own (x ∷ xs) =
+        by_order (order (key x) k) (λ l. simp l (changed_own xs)) (λ q. simp (q, keeps x q)) (λ m. simp m)
 
-    changed_own : (k : K) (xs : List E) → look order key k (changed order key f k xs) ≡ option_map f (look order key k xs)
-    changed_own k [] = refl
-    changed_own k (x ∷ xs) =
-        by_order (order (key x) k) (λ l. simp l (changed_own k xs)) (λ q. simp (q, keeps x)) (λ m. simp m)
-
-    changed_others : (k j : K) (xs : List E) → Differ order key k j → look order key j (changed order key f k xs) ≡ look order key j xs
-    changed_others k j [] differ = refl
-    changed_others k j (x ∷ xs) differ =
+    pub changed_others : (j : K) (xs : List E) → Differ order key k j → look order key j (changed order key f k xs) ≡ look order key j xs
+    changed_others j [] differ = refl
+    changed_others j (x ∷ xs) differ =
         by_order (order (key x) k)
-        (λ l. simp l (ap (λ z. pick (order (key x) j) z (Some x) None) (changed_others k j xs differ)))
-        (λ q. simp (q, keeps x)
+        (λ l. simp l (ap (λ z. pick (order (key x) j) z (Some x) None) (changed_others j xs differ)))
+        (λ q. simp (q, keeps x q)
         (by_order (order (key x) j)
         (λ l. simp l)
         (λ q'. absurd (differ (sym (laws.ties (key x) k j q) ∙ q')))
         (λ m. simp m)))
         (λ m. simp m)
 
-    changed_ascends : (k : K) (xs : List E) → Ascends order key xs → Ascends order key (changed order key f k xs)
-    changed_ascends k [] up = tt
-    changed_ascends k (x ∷ xs) up =
+    pub changed_ascends : (xs : List E) → Ascends order key xs → Ascends order key (changed order key f k xs)
+    changed_ascends [] up = tt
+    changed_ascends (x ∷ xs) up =
         by_order (order (key x) k)
-        (λ l. simp l (all_changed k (key x) xs up.0, changed_ascends k xs up.1))
-        (λ q. simp (q, keeps x) up)
+        (λ l. simp l (all_changed order key (λ y. order (key x) (key y) ≡ Less) f k xs (λ y at less. ap (order (key x)) (keeps y (look_equal order key k xs y at)) ∙ less) up.0, changed_ascends xs up.1))
+        (λ q. simp (q, keeps x q) up)
         (λ m. simp m up)
 
   pub table_laws : Laws order key
@@ -157,15 +140,10 @@ module _ {K E : Type 0} (order : K → K → Ordering) (key : E → K) (laws : L
     without_others = without_others;
     without_ascends = without_ascends;
     changed_at = changed_found order key;
-    changed_found = λ f k xs keeps. changed_own f keeps k xs;
-    changed_others = λ f k j xs keeps. changed_others f keeps k j xs;
-    changed_ascends = λ f k xs keeps. changed_ascends f keeps k xs;
+    changed_found = λ f k xs keeps. changed_own f k (λ x _. keeps x) xs;
+    changed_others = λ f k j xs keeps. changed_others f k (λ x _. keeps x) j xs;
+    changed_ascends = λ f k xs keeps. changed_ascends f k (λ x _. keeps x) xs;
   }
 
   pub found_exactly : ((a b : K) → order a b ≡ Equal → a ≡ b) → FoundExactly order key
-  found_exactly same k [] e h = cc
-  found_exactly same k (x ∷ xs) e h =
-      by_order (order (key x) k)
-      (λ l. found_exactly same k xs e (simp l at h))
-      (λ q. let n = simp q at h in let s = same (key x) k q in cc)
-      (λ m. let n = simp m at h in cc)
+  found_exactly same k xs e h = same (key e) k (look_equal order key k xs e h)

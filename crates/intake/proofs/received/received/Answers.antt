@@ -6,8 +6,7 @@ use Rattle.places.proofs.Putting.{step_up}
 use Rattle.record.specs.Fields.{by_index, index_named}
 use Rattle.record.specs.Sound.{Lies}
 use Rattle.record.specs.Views.{memory, shard_in}
-use Rattle.runs.proofs.Entries.{all_look}
-use Rattle.table.proofs.Carried.{map-look}
+use Rattle.table.proofs.Carried.{all_look, map-look}
 use Rattle.intake.specs.Classes.{bytes_of}
 use Rattle.intake.proofs.received.received.Goals as goal
 
