@@ -150,31 +150,32 @@ def parity_faults():
     ]
 
 
-def uneven():
-    """Two good shards of different lengths: the tree is over payloads of two sizes."""
+def over_three(name, about, payloads):
+    """A parity file of minimum 2 whose root is over three payloads as they are, and the three shards with their paths."""
     digest = lambda b: hashlib.sha256(b).digest()
-    block = sample("plain", digest)
-    payloads = [b"abcdef", b"abcd", b"zz"]
     leaves = [digest(p) for p in payloads] + [bytes(32)]
     nodes = [digest(leaves[0] + leaves[1]), digest(leaves[2] + leaves[3])]
-    f = File("uneven.shards", "payloads of different lengths", "sha-256", "parity", "plain", 2, 1, block, digest(nodes[0] + nodes[1]))
-    f.shard(0, "alice", payloads[0] + leaves[1] + nodes[1], True)
-    f.shard(1, "bob", payloads[1] + leaves[0] + nodes[1], True)
+    f = File(name, about, "sha-256", "parity", "plain", 2, 1, sample("plain", digest), digest(nodes[0] + nodes[1]))
+    siblings = [leaves[1] + nodes[1], leaves[0] + nodes[1], leaves[3] + nodes[0]]
+    return f, [payload + path for payload, path in zip(payloads, siblings)]
+
+
+def uneven():
+    """Two good shards of different lengths: the tree is over payloads of two sizes."""
+    f, shards = over_three("uneven.shards", "payloads of different lengths", [b"abcdef", b"abcd", b"zz"])
+    f.shard(0, "alice", shards[0], True)
+    f.shard(1, "bob", shards[1], True)
     f.ends("fault: Coding(Uneven 2)")
     return f
 
 
 def padding():
     """A byte behind the blob that is not zero: length 1, so that two pieces of 3 bytes leave one byte of padding."""
-    digest = lambda b: hashlib.sha256(b).digest()
-    block = sample("plain", digest)
     data = bytes([0, 0, 0, 1, 65, 7])
     payloads = [data[:3], data[3:], bytes(a ^ b for a, b in zip(data[:3], data[3:]))]
-    leaves = [digest(p) for p in payloads] + [bytes(32)]
-    nodes = [digest(leaves[0] + leaves[1]), digest(leaves[2] + leaves[3])]
-    f = File("padding.shards", "padding that is not zero", "sha-256", "parity", "plain", 2, 1, block, digest(nodes[0] + nodes[1]))
-    f.shard(1, "bob", payloads[1] + leaves[0] + nodes[1], True)
-    f.shard(2, "carol", payloads[2] + leaves[3] + nodes[0], True)
+    f, shards = over_three("padding.shards", "padding that is not zero", payloads)
+    f.shard(1, "bob", shards[1], True)
+    f.shard(2, "carol", shards[2], True)
     f.ends("fault: Coding(Padding 4)")
     return f
 
