@@ -1,6 +1,5 @@
 -- Trying a job and completing one keep a record sound; a short completion loses an index at least.
 use Rattle.std.proofs.Common.{◌≡◌, ℕ, suc, ◌+◌, ◌-◌, ◌<◌, ◌≤◌, Bool, false, cond, not, ltb, leb, List, [], ◌∷◌, ◌++◌, map, length, get_or, IfSome, Some, None, Ok, Err, filter, Option, Result, sym, refl, ap, subst, arith, length-append, length-take}
-use Rattle.std.proofs.ByRecursion.{All-append, All-drop, All-take}
 use Rattle.std.proofs.lemmas.Bool.{cond_both, leb-false, leb-true, ltb-true, not-true}
 use Rattle.std.specs.List.{AllByRecursion}
 use Rattle.block.specs.declared.kind.Reading.{Reading}
@@ -13,6 +12,7 @@ use Rattle.model.specs.Meaning.{Meaning, good_for, minimum_of, opened_for, rebui
 use Rattle.model.specs.Promises.{CachedAbove}
 use Rattle.model.specs.declared.answer.Outcome.{Outcome}
 use Rattle.model.specs.State.{Job, Phase, awaiting, cached, Rec, Sent, Shards, with_phase}
+use Rattle.runs.proofs.Each.{all_append, all_drop, all_take}
 use Rattle.runs.proofs.Entries.{never_some}
 use Rattle.runs.proofs.Records.{sent_at}
 use Rattle.runs.proofs.Tallies.{flag_most, hit, tally, tally_append, tally_split}
@@ -75,8 +75,8 @@ module _ (good : Indexed → Bool) (minimum : ℕ) (keys : List (List ℕ)) (own
             tallied = λ i. let b = k.tallied i in let d = tally_split sent_at i n w.pending in omega arith;
             received = k.received;
             checked = tt;
-            pending = All-drop (Pending good minimum keys own Hand) n w.pending k.pending;
-            job = (k.checked, All-take (Pending good minimum keys own Hand) n w.pending k.pending, omega (arith, length-take n w.pending));
+            pending = all_drop (Pending good minimum keys own Hand) n w.pending k.pending;
+            job = (k.checked, all_take (Pending good minimum keys own Hand) n w.pending k.pending, omega (arith, length-take n w.pending));
           },
           tt,
         ))
@@ -100,8 +100,8 @@ module _ (good : Indexed → Bool) (minimum : ℕ) (keys : List (List ℕ)) (own
               let b = k.tallied i in let s = sorted_out good i j.pending in let a = tally_append index_of i w.checked (j.checked ++ kept) in
               let c = tally_append index_of i j.checked kept in let d = tally_append itself i gone lost in omega arith;
           received = k.received;
-          checked = All-append (Checked good minimum keys own Hand) w.checked (j.checked ++ kept) k.checked
-              (All-append (Checked good minimum keys own Hand) j.checked kept k.job.0 (good_checked j.pending k.job.1));
+          checked = all_append (Checked good minimum keys own Hand) w.checked (j.checked ++ kept) k.checked
+              (all_append (Checked good minimum keys own Hand) j.checked kept k.job.0 (good_checked j.pending k.job.1));
           pending = k.pending;
           job = tt;
         }
@@ -149,7 +149,7 @@ module _ (m : Meaning) (limit : ℕ) (keys : List (List ℕ)) (own : Option ℕ)
         record {
           more = gone ++ lost;
           sound = t.0;
-          losses = All-append (Lost good' minimum' keys own Hand) gone lost (bad_lost good' minimum' keys own Hand j.pending k.0.job.1) losses;
+          losses = all_append (Lost good' minimum' keys own Hand) gone lost (bad_lost good' minimum' keys own Hand j.pending k.0.job.1) losses;
           settled = t.1;
           longer = omega arith;
           number = many;

@@ -2,7 +2,6 @@
 use Rattle.std.proofs.Common.{◌≡◌, ℕ, ◌+◌, ◌-◌, ◌<◌, ◌≤◌, Bool, true, false, leb, ◌⊎◌, List, [], ◌++◌, map, length, get_or, is_some, Some, None, Ok, Err, filter, Option, sym, refl, ap, ◌∙◌, subst, inl, inr, ⊎_elim, arith, length-append}
 use Rattle.std.proofs.lemmas.Option.{same_Some}
 use lib.ListN.{length-map}
-use Rattle.std.proofs.ByRecursion.{All-append, All-weaker}
 use Rattle.std.proofs.lemmas.Bool.{both_ways, cases_lt, cond_both}
 use Rattle.std.specs.Option.{option_map}
 use Rattle.std.specs.List.{AllByRecursion}
@@ -19,6 +18,7 @@ use Rattle.model.specs.State.{Job, Limits, Phase, awaiting, cached, Rec, Shards,
 use Rattle.model.specs.Steps.{block_given, completed_by, completion_by, completion_of, step, unless_refused}
 use Rattle.model.specs.declared.answer.Refusal.{Refusal}
 use Rattle.model.specs.declared.answer.Refusal.TheVariants.{Malformed, NoBlock, Buffer}
+use Rattle.runs.proofs.Each.{all_append, all_weaker}
 use Rattle.runs.proofs.Entries.{by_option, found_key, never_some}
 use Rattle.runs.proofs.Intakes.{completes_ways}
 use Rattle.runs.proofs.Rolls.{roll_record}
@@ -93,9 +93,9 @@ module _ (limits : Limits) (m : Meaning) (a : Assignment) (h : List Event) (c : 
     few_lost =
         let long = length-append places live.lost in
         let all = crowded (length keys) (places ++ live.lost)
-        (All-append (λ i. i < length keys) places live.lost
-        (All-weaker Hands (λ i. i < length keys) (λ i x. x.member) places enough.each)
-        (All-weaker LostHere (λ i. i < length keys) (λ i x. index_below x.key keys i x.place) live.lost live.losses))
+        (all_append (λ i. i < length keys) places live.lost
+        (all_weaker Hands (λ i. i < length keys) (λ i x. x.member) places enough.each)
+        (all_weaker LostHere (λ i. i < length keys) (λ i x. index_below x.key keys i x.place) live.lost live.losses))
         (λ i. once i) in
         omega arith
       where
@@ -108,13 +108,13 @@ module _ (limits : Limits) (m : Meaning) (a : Assignment) (h : List Event) (c : 
 
     pub past : AllByRecursion (λ e. Completing c e.call → EndedAbove (length keys - length places) e.answer) (since limits.window c h)
     past =
-        All-weaker (λ x. Completing c x.call → EndedAbove (length live.lost) x.answer) (λ x. Completing c x.call → EndedAbove (length keys - length places) x.answer)
+        all_weaker (λ x. Completing c x.call → EndedAbove (length live.lost) x.answer) (λ x. Completing c x.call → EndedAbove (length keys - length places) x.answer)
         (λ x e is. let few = few_lost in ended_above_more (length live.lost) (length keys - length places) x.answer (omega arith) (e is)) (since limits.window c h) live.ended
 
     -- each place has contributed
     pub given_places : AllByRecursion (λ p. GivenTo r p) places
     given_places =
-        All-weaker Hands (λ p. GivenTo r p)
+        all_weaker Hands (λ p. GivenTo r p)
         (λ p x. live.gave (get_or keys p []) (record { index = p; bytes = x.bytes }) x.handed (own_place keys p live.rising x.member) x.good)
         places enough.each
 
@@ -157,9 +157,9 @@ module _ (limits : Limits) (m : Meaning) (a : Assignment) (h : List Event) (c : 
               let x = tally_append index_of i j.checked kept in
               let y = sorted_out good i j.pending in
               omega arith);
-          each = All-weaker CheckedHere (GoodShard limits m a h c)
+          each = all_weaker CheckedHere (GoodShard limits m a h c)
               (λ x ok. record { good = ok.passes; sender = ok.key; handed = ok.handed }) (j.checked ++ kept)
-              (All-append CheckedHere j.checked kept jobbed.0
+              (all_append CheckedHere j.checked kept jobbed.0
               (good_checked good (minimum_of c) keys own Hand j.pending jobbed.1));
         }
 

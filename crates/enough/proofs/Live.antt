@@ -1,7 +1,6 @@
 -- What is true of the record of a commitment and of the events since its admission, and how a call carries it on.
 use Rattle.std.proofs.Common.{◌≡◌, ℕ, zero, suc, ◌≤◌, true, false, cond, eqb, List, [], ◌∷◌, length, get_or, replicate, is_ok, Some, Ok, Err, Option, refl, ⊎_elim, le_trans, arith}
 use lib.ListN.{length-replicate}
-use Rattle.std.proofs.ByRecursion.{All-weaker}
 use Rattle.std.proofs.lemmas.Bool.{both_ways, cond_both, eqb-false}
 use Rattle.std.specs.List.{AllByRecursion}
 use Rattle.register.specs.Commitments.{config_of}
@@ -16,6 +15,7 @@ use Rattle.model.specs.Promises.{CachedAbove, Completing, EndedAbove}
 use Rattle.model.specs.State.{Limits, Rec, new_record}
 use Rattle.model.specs.declared.answer.Outcome.{Outcome}
 use Rattle.model.specs.declared.answer.Outcome.TheVariants.{NoEpoch, NoMember, OtherEpoch, LeaderStands, Declined, Held, Cached, Ignored, Boxed, NotBoxed, Gain, NoGain, Short, Rebuilt, Failed}
+use Rattle.runs.proofs.Each.{all_weaker}
 use Rattle.runs.proofs.Tallies.{flag}
 use Rattle.enough.proofs.Draws.{Grown, SoundHere, good_here}
 use Rattle.enough.proofs.Held.{GivenTo, Lost, Settled}
@@ -86,7 +86,7 @@ module _ (limits : Limits) (m : Meaning) (a : Assignment) (c : List ℕ) (ep : �
     settled = grown.settled;
     ended = (
       ends,
-      All-weaker (λ x. Completing c x.call → EndedAbove (length live.lost) x.answer) (λ x. Completing c x.call → EndedAbove (length more) x.answer)
+      all_weaker (λ x. Completing c x.call → EndedAbove (length live.lost) x.answer) (λ x. Completing c x.call → EndedAbove (length more) x.answer)
           (λ y h is. ended_above_more (length live.lost) (length more) y.answer longer (h is)) es live.ended,
     );
     gave = λ k s handed at good. ⊎_elim (λ h. gets k s h.0 h.1 at good) (λ h. grown.grows s.index (live.gave k s h at good)) handed;

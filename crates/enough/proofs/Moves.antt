@@ -1,7 +1,6 @@
 -- A call that leaves the record of a commitment alone, replaces it, or lets one in; and box intake for it.
 use Rattle.std.proofs.Common.{◌≡◌, ℕ, Bool, true, false, ◌⊎◌, List, [], ◌∷◌, length, is_some, Some, None, Option, sym, refl, ap, ◌∙◌, subst, inl, inr, arith}
 use Rattle.std.proofs.lemmas.Slice.Eq.{bytes_eq-Decides}
-use Rattle.std.proofs.ByRecursion.{All-weaker}
 use Rattle.std.proofs.lemmas.Option.{same_Some}
 use Rattle.std.specs.List.{AllByRecursion}
 use Rattle.std.specs.Str.{bytes_eq}
@@ -17,6 +16,7 @@ use Rattle.model.specs.Promises.{Completing, EndedAbove}
 use Rattle.model.specs.State.{Limits, Peer, Rec, State, filed_under, record_of}
 use Rattle.model.specs.Steps.{Step, advanced, all_taken, began, entered, replaced, wants}
 use Rattle.runs.proofs.Boxes.{Filled, drawn_brought}
+use Rattle.runs.proofs.Each.{all_weaker}
 use Rattle.runs.proofs.Entries.{differ, entry_laws, replaced_ascends, replaced-found, replaced_others}
 use Rattle.enough.proofs.Draws.{Grown, SoundHere, advanced_grown, good_here, known, row_all, row-began}
 use Rattle.enough.proofs.Held.{GivenTo, Settled}
@@ -121,7 +121,7 @@ module _ (limits : Limits) (m : Meaning) (a : Assignment) (c : List ℕ) (ep : �
       Grown limits m a c ep Hand lost x (advanced (all_taken limits m roster ks x.round.epoch.0 (began x) (all_drawn (wants limits m roster ks x) s.peers)))
   box_grown agrees boxes lost x ks named in_epoch_now at sound settled =
       let knows = known a ep roster ks agrees (ap roster.keys (sym in_epoch_now) ∙ at) in
-      let drawn = All-weaker (λ p. For c Hand x.commitment p.sender p.shard) (λ p. Hand p.sender p.shard) (λ p handed. handed named) (all_drawn (wants limits m roster ks x) s.peers)
+      let drawn = all_weaker (λ p. For c Hand x.commitment p.sender p.shard) (λ p. Hand p.sender p.shard) (λ p handed. handed named) (all_drawn (wants limits m roster ks x) s.peers)
       (drawn_brought (For c Hand) x.commitment (is_some x.leader) ks s.peers boxes) in
       let row = row_all limits m a c ep Hand roster ks knows lost x (began x) (all_drawn (wants limits m roster ks x) s.peers) drawn (row-began limits m a c ep Hand lost x named sound) in
       subst (λ n. Grown limits m a c ep Hand lost x (advanced (all_taken limits m roster ks n (began x) (all_drawn (wants limits m roster ks x) s.peers)))) (sym in_epoch_now)

@@ -1,6 +1,5 @@
 -- Intake keeps a record sound, and a member's good shard at its own index has then contributed there.
 use Rattle.std.proofs.Common.{◌≡◌, ℕ, ◌<◌, ◌≤◌, Bool, true, false, cond, eqb, List, [], ◌∷◌, ◌++◌, length, get_or, set, Some, None, Option, Equal, sym, refl, ap, ◌∙◌, arith, length-set}
-use Rattle.std.proofs.ByRecursion.{All-push, All-weaker}
 use Rattle.std.proofs.lemmas.Bool.{and_parts, both_ways, cond_both, eq-eqb, eqb-true}
 use Rattle.std.proofs.lemmas.Option.{same_Some}
 use Rattle.std.specs.Str.{bytes_eq}
@@ -14,6 +13,7 @@ use Rattle.model.specs.Intake.{Class, assigned, owned, stray, Taken, arrives, ch
 use Rattle.model.specs.State.{Phase, awaiting, cached, Rec, Sent, Shards, with_phase}
 use Rattle.model.specs.declared.answer.Reason.{Reason}
 use Rattle.model.specs.declared.answer.Reason.TheVariants.{Stranger, WrongIndex, Equivocation, BadAssigned}
+use Rattle.runs.proofs.Each.{all_append, all_weaker}
 use Rattle.runs.proofs.Entries.{by_option, never_some, number_laws, number_same}
 use Rattle.runs.proofs.Places.{index_below}
 use Rattle.runs.proofs.Records.{sent_at}
@@ -41,7 +41,7 @@ module _ (good : Indexed → Bool) (minimum : ℕ) (keys : List (List ℕ)) (own
         assigned = λ v j o. flag_kept flags i j (k.assigned v j o);
         tallied = λ j. let t = k.tallied j in let b = set_bit flags i j inside off in let n = put_tally order sender_of sent_at j p w.pending new in omega arith;
         received = all_put nat_cmp index_of (λ x. get_or (set flags i true) x.index false ≡ true) s w.received (flag_raised flags i inside)
-            (All-weaker _ (λ x. get_or (set flags i true) x.index false ≡ true) (λ x h. flag_kept flags i x.index h) w.received k.received);
+            (all_weaker _ (λ x. get_or (set flags i true) x.index false ≡ true) (λ x h. flag_kept flags i x.index h) w.received k.received);
         checked = k.checked;
         pending = all_put order sender_of (Pending good minimum keys own Hand) p w.pending (record { handed = handed; place = place }) k.pending;
         job = k.job;
@@ -60,7 +60,7 @@ module _ (good : Indexed → Bool) (minimum : ℕ) (keys : List (List ℕ)) (own
         assigned = λ v j o. rw (← (mine j o)) (flag_raised flags i inside);
         tallied = λ j. let t = k.tallied j in let b = set_bit flags i j inside off in let n = tally_append index_of j w.checked (s ∷ []) in omega arith;
         received = all_put nat_cmp index_of (λ x. get_or (set flags i true) x.index false ≡ true) s w.received (flag_raised flags i inside)
-            (All-weaker _ (λ x. get_or (set flags i true) x.index false ≡ true) (λ x h. flag_kept flags i x.index h) w.received k.received);
+            (all_weaker _ (λ x. get_or (set flags i true) x.index false ≡ true) (λ x h. flag_kept flags i x.index h) w.received k.received);
         checked = All-push (Checked good minimum keys own Hand) w.checked s k.checked (record { passes = passes; key = sender; handed = handed });
         pending = k.pending;
         job = k.job;

@@ -1,6 +1,5 @@
 -- A member that keeps to the rules is never reported.
 use Rattle.std.proofs.Common.{◌≡◌, ℕ, Bool, true, not, List, [], ◌∷◌, is_some, IfSome, Some, None, filter, Option, sym, ap, ◌∙◌, subst, ⊎_elim}
-use Rattle.std.proofs.ByRecursion.{All-weaker}
 use Rattle.std.proofs.lemmas.Slice.Eq.{bytes_eq-Decides}
 use Rattle.std.proofs.lemmas.Bool.{both_ways, cond_both, not-true}
 use Rattle.std.proofs.lemmas.Option.{same_Some}
@@ -17,6 +16,7 @@ use Rattle.model.specs.Jobs.{failing, job_in}
 use Rattle.model.specs.Meaning.{Meaning, good_for}
 use Rattle.model.specs.Promises.{Blameless, NobodyWithoutCause, Spares}
 use Rattle.model.specs.State.{Job, Limits, Rec, Sent, State}
+use Rattle.runs.proofs.Each.{all_filter, all_weaker}
 use Rattle.runs.proofs.Entries.{number_laws, number_same}
 use Rattle.runs.proofs.Intakes.{intake_ways}
 use Rattle.runs.proofs.Places.{index_same, stray_not_at, stray_not_own}
@@ -78,15 +78,9 @@ module _ (limits : Limits) (m : Meaning) (a : Assignment) (h : List Event) (k : 
 
   -- a pending shard that a job found bad is not from k
   bad_others : (c : List ℕ) (e : ℕ) → A c e → (ps : List Sent) → AllByRecursion (Pending limits m a H A c e) ps → AllByRecursion (λ p. Another p.sender) (filter (λ p. not (good_for m limits.blob c p.shard)) ps)
-  bad_others c e named [] all = tt
-  bad_others c e named (p ∷ ps) all =
-      let test : Sent → Bool = λ x. not (good_for m limits.blob c x.shard) in
-      cond_both (test p) (p ∷ filter test ps) (filter test ps) (AllByRecursion (λ x. Another x.sender))
-      (λ t. (
-        (λ same. both_ways (good_for m limits.blob c p.shard) (not-true _ t) (blameless.good c e p.shard named (subst (λ j. H c j p.shard) same all.0.handed))),
-        bad_others c e named ps all.1,
-      ))
-      (λ _. bad_others c e named ps all.1)
+  bad_others c e named ps all =
+      all_filter (Pending limits m a H A c e) (λ p. Another p.sender) (λ p. not (good_for m limits.blob c p.shard))
+      (λ p t k same. both_ways (good_for m limits.blob c p.shard) (not-true _ t) (blameless.good c e p.shard named (subst (λ j. H c j p.shard) same k.handed))) ps all
 
   blamed : (j : Job) (r : Rec) → job_in r.phase ≡ Some j → FineHere r → AllByRecursion (λ p. Another p.sender) (failing m limits.blob r.commitment j)
   blamed j r out fine =
@@ -113,7 +107,7 @@ module _ (limits : Limits) (m : Meaning) (a : Assignment) (h : List Event) (k : 
 
   all_spared : (s : State) → Leads limits m a h s → AllByRecursion (λ e. Spares k e.answer) h
   all_spared s l =
-      All-weaker (λ (e : Event). Reports Another e.answer) (λ (e : Event). Spares k e.answer) (λ e. spares e.answer) h
+      all_weaker (λ (e : Event). Reports Another e.answer) (λ (e : Event). Spares k e.answer) (λ e. spares e.answer) h
       (reached limits m a H A FineHere Another keeps h s l (all_tell limits m a H A FineHere Another h (λ _ _ _ z. z) (λ _ _ z. z))).reports
 
 pub never_without_cause : (limits : Limits) (m : Meaning) (a : Assignment) (h : List Event) (s : State) → Leads limits m a h s → NobodyWithoutCause limits m a h

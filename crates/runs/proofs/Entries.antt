@@ -1,8 +1,8 @@
 -- Tables under byte strings and under numbers: an entry in the place of another, and the window.
 use Rattle.std.proofs.Common.{◌≡◌, ℕ, suc, ◌<◌, ◌≤◌, cond, ltb, List, [], ◌∷◌, map, length, IfSome, Some, None, Option, Less, Equal, Greater, sym, refl, ap, ◌∙◌, arith}
-use lib.ListN.{length-map}
 use Rattle.std.proofs.lemmas.Bool.{cond_both, cond-false, le-ltb, ltb-false, ltb-true}
 use Rattle.std.proofs.lemmas.Bool.Decides.{nat_tests}
+use Rattle.std.proofs.lemmas.List.{length-map}
 use Rattle.std.specs.Cmp.{nat_cmp_total}
 use Rattle.std.specs.Option.{option_map}
 use Rattle.std.specs.List.{AllByRecursion}
@@ -23,19 +23,12 @@ pub by_option : {X : Type 0} (P : Option X → Type 0) (o : Option X) → (o ≡
 by_option P None n s = n refl
 by_option P (Some x) n s = s x refl
 
-pub never_some : {X : Type 0} (x : X) (G : Type 0) → None ≡ Some x → G
-never_some x G h = absurd (let z : ◌≡◌ {A = ℕ} 0 1 = cc in omega arith)
-
 -- the order of byte strings, and that of numbers
 pub byte_laws : Lawful order
 byte_laws = record { reverses = order_reverses; ascends = order_ascends; ties = order_ties }
 
 pub number_laws : Lawful nat_cmp
-number_laws = record {
-  reverses = λ a b. nat_cmp_total.antisymm b a;
-  ascends = λ a b c. nat_cmp_total.trans a b c;
-  ties = λ a b c. nat_cmp_total.congr a b c;
-}
+number_laws = grind (arith, nat_tests)
 
 pub number_same : (a b : ℕ) → nat_cmp a b ≡ Equal → a ≡ b
 number_same a b h = grind (arith, nat_tests)
@@ -68,8 +61,7 @@ module _ {E : Type 0} (key : E → List ℕ) where
 -- the window
 module _ {E : Type 0} (round : E → Round) (key : E → List ℕ) where
   lower_all : (P : E → Type 0) (x : E) (o : Option E) → P x → IfSome o P → P (lower_of round key x o)
-  lower_all P x None h rest = h
-  lower_all P x (Some y) h rest = cond_both (lower (round y) (round x)) y x P (λ _. rest) (λ _. h)
+  lower_all P x o h rest = grind arith
 
   pub all_lowest : (P : E → Type 0) (xs : List E) → AllByRecursion P xs → IfSome (lowest round key xs) P
   all_lowest P [] all = tt
@@ -89,10 +81,10 @@ module _ {E : Type 0} (round : E → Round) (key : E → List ℕ) where
     where
       gone : (ys : List E) → lowest round key ys ≡ None → window < length ys → Q xs
       gone [] n more = absurd (omega arith)
-      gone (y ∷ ys) n more = never_some (lower_of round key y (lowest round key ys)) (Q xs) (sym n)
+      gone (y ∷ ys) n more = cc
 
   pub trimmed_few : (window : ℕ) (xs : List E) → length xs ≤ window → trimmed round key window xs ≡ xs
-  trimmed_few window xs few = cond-false (ltb window (length xs)) (leaves round key (lowest round key xs) xs) xs (le-ltb window (length xs) few)
+  trimmed_few window xs few = grind arith
 
   leaves_all : (P : E → Type 0) (o : Option E) (xs : List E) → AllByRecursion P xs → AllByRecursion P (leaves round key o xs)
   leaves_all P None xs all = all
@@ -118,20 +110,13 @@ module _ {E : Type 0} (round : E → Round) (key : E → List ℕ) where
       trimmed_either (λ ys. look order key c ys ≡ Some e → look order key c xs ≡ Some e) window xs up (λ _ h. h)
       (λ x _ _ h.
       by_order (order (key x) c)
-      (λ l. sym ((entry_laws key).without_others (key x) c xs up (λ q. apart (sym l ∙ q))) ∙ h)
-      (λ q. never_some e (look order key c xs ≡ Some e) (sym ((entry_laws key).without_gone (key x) xs up) ∙ ap (λ k. look order key k (without order key (key x) xs)) (order_same (key x) c q) ∙ h))
-      (λ m. sym ((entry_laws key).without_others (key x) c xs up (λ q. apart' (sym m ∙ q))) ∙ h))
-    where
-      apart : Less ≡ Equal → ⊥
-      apart h = let z : ◌≡◌ {A = ℕ} 0 1 = cc in omega arith
-
-      apart' : Greater ≡ Equal → ⊥
-      apart' h = let z : ◌≡◌ {A = ℕ} 0 1 = cc in omega arith
+      (λ l. sym ((entry_laws key).without_others (key x) c xs up (λ q. cc)) ∙ h)
+      (λ q. let gone = (entry_laws key).without_gone (key x) xs up in cc (order_same (key x) c q))
+      (λ m. sym ((entry_laws key).without_others (key x) c xs up (λ q. cc)) ∙ h))
 
 module _ {E F : Type 0} (round : F → Round) (key : F → List ℕ) (g : E → F) where
   map_lower_of : (x : E) (o : Option E) → g (lower_of (λ y. round (g y)) (λ y. key (g y)) x o) ≡ lower_of round key (g x) (option_map g o)
-  map_lower_of x None = refl
-  map_lower_of x (Some y) = cond_both (lower (round (g y)) (round (g x))) y x (λ z. g z ≡ cond (lower (round (g y)) (round (g x))) (g y) (g x)) (λ t. simp t) (λ f. simp f)
+  map_lower_of x o = grind arith
 
   map-lowest : (xs : List E) → option_map g (lowest (λ y. round (g y)) (λ y. key (g y)) xs) ≡ lowest round key (map g xs)
   map-lowest [] = refl

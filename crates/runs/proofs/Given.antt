@@ -1,6 +1,6 @@
 -- A block that a look-up gives is what good shards, each handed in, open to.
 use Rattle.std.proofs.Common.{◌≡◌, ℕ, ◌+◌, ◌-◌, ◌<◌, eqb, List, [], ◌∷◌, ◌++◌, length, drop, Some, Ok, sym, refl, ap, ◌∙◌, subst, arith, length-drop, take-append-drop, get_or-drop}
-use Rattle.std.proofs.ByRecursion.{All-weaker}
+use Rattle.std.proofs.lemmas.Grind.{common_steps}
 use Rattle.std.proofs.lemmas.Bool.{and_parts, eqb-true}
 use Rattle.std.specs.Option.{option_map}
 use Rattle.block.proofs.Whole.{matched_behind}
@@ -16,6 +16,7 @@ use Rattle.model.specs.Meaning.{Meaning, Roster, fitted_for}
 use Rattle.model.specs.Promises.{BlocksWereHandedIn, Gives, GoodShard, HandedInBlock}
 use Rattle.model.specs.State.{Limits, Rec, State, filed_under, record_of}
 use Rattle.model.specs.Steps.{Step, block_given, step, unless_refused}
+use Rattle.runs.proofs.Each.{all_weaker}
 use Rattle.runs.proofs.Entries.{by_option, found_key}
 use Rattle.runs.proofs.Intakes.{by_phases}
 use Rattle.runs.proofs.Invariants.{records_fine}
@@ -25,10 +26,7 @@ use Rattle.runs.specs.Rolls.{entry_of}
 
 -- the config in the bytes at i is that at the front of what stands behind them
 config_behind : (xs : List ℕ) (i : ℕ) → config_at (drop i xs) 0 ≡ config_at xs i
-config_behind xs i =
-    let two : i + 2 ≡ i + 2 + 0 = omega arith in
-    let three : i + 3 ≡ i + 2 + 1 = omega arith in
-    simp (get_or-drop, ← two, ← three)
+config_behind xs i = grind (arith, common_steps)
 
 -- a blob that fits ends with four bytes that spell the commitment's config
 record Ends (c blob : List ℕ) : Type 0 where
@@ -68,9 +66,9 @@ module _ (limits : Limits) (m : Meaning) (a : Assignment) (h : List Event) where
           sufficient = record {
             many = from.many;
             distinct = from.distinct;
-            each = All-weaker (Checked limits m a H A c r.round.epoch.0) (GoodShard limits m a h c) (λ x k. record { good = k.good; sender = k.sender; handed = k.handed }) from.shards from.each;
+            each = all_weaker (Checked limits m a H A c r.round.epoch.0) (GoodShard limits m a h c) (λ x k. record { good = k.good; sender = k.sender; handed = k.handed }) from.shards from.each;
           };
-          participants = All-weaker (Checked limits m a H A c r.round.epoch.0) (λ x. x.index < length (a.keys r.round.epoch.0)) (λ x k. k.below) from.shards from.each;
+          participants = all_weaker (Checked limits m a H A c r.round.epoch.0) (λ x. x.index < length (a.keys r.round.epoch.0)) (λ x k. k.below) from.shards from.each;
           config = drop (length blob - 4) blob;
           four = behind.four;
           spelled = behind.spelled;

@@ -1,5 +1,6 @@
 pub mod Boxes
 pub mod Causes
+pub mod Each
 pub mod Entries
 pub mod Given
 pub mod Intakes

@@ -1,6 +1,5 @@
 -- What each call keeps of every record, and of the keys that it reports, holds in every state that a history leads to.
-use Rattle.std.proofs.Common.{◌≡◌, ℕ, true, List, [], ◌∷◌, is_some, IfSome, Some, None, Option, sym, refl, ap, ◌∙◌, subst}
-use Rattle.std.proofs.ByRecursion.{All-append, All-map}
+use Rattle.std.proofs.Common.{◌≡◌, ℕ, true, List, [], ◌∷◌, is_some, IfSome, Some, None, Option, sym, refl, ap, ◌∙◌, subst, arith}
 use Rattle.std.proofs.lemmas.Bool.{cond_both}
 use Rattle.std.specs.List.{AllByRecursion}
 use Rattle.register.specs.Order.{order}
@@ -18,6 +17,7 @@ use Rattle.model.specs.State.{Job, Limits, Phase, awaiting, cached, Rec, Sent, S
 use Rattle.model.specs.Steps.{Ingested, Step, advanced, all_taken, began, block_given, box_intake, completion_of, done, entered, observes, outlives, replaced, reported, same_epoch, shard_of, step, taken, unless_refused, wants, within_window}
 use Rattle.model.specs.declared.answer.Reason.{Reason}
 use Rattle.runs.proofs.Boxes.{Filled, boxed-filled, drawn_brought, left-filled, renewed-filled}
+use Rattle.runs.proofs.Each.{all_append, all_map}
 use Rattle.runs.proofs.Entries.{all_trimmed, by_option, found_key}
 use Rattle.runs.proofs.Rolls.{intake_entry}
 use Rattle.runs.proofs.Ways.{AnnouncedWays, box_ways, completion_ways, discovery_ways, notarization_ways, shard_ways}
@@ -29,9 +29,7 @@ pub record Seated (a : Assignment) (e : ℕ) (keys : List (List ℕ)) (own : Opt
   pub fair : Fair (Some keys) own
 
 pub seated : (a : Assignment) (roster : Roster) (e : ℕ) (keys : List (List ℕ)) → Agrees a roster → roster.keys e ≡ Some keys → Seated a e keys (roster.own e)
-seated a roster e keys agrees known =
-    let says = subst (λ o. IfSome o (λ ks. (ks ≡ a.keys e) × (roster.own e ≡ a.own e))) known (agrees.tells e) in
-    record { keys_are = says.0; own_is = says.1; fair = subst (λ o. Fair o (roster.own e)) known (agrees.fair e) }
+seated a roster e keys agrees known = grind arith
 
 -- every key that an answer reports is one of which R holds
 abbrev pub Reports : (List ℕ → Type 0) → Answer → Type 0
@@ -89,7 +87,7 @@ module _ (limits : Limits) (m : Meaning) (a : Assignment) (H : List ℕ → List
             commitment = ap (λ (x : Entry). x.commitment) same ∙ going.commitment;
             epoch = ap (λ (x : Entry). x.round.epoch.0) same ∙ going.epoch;
             holds = next.0;
-            reports = All-append (λ (r : Report). R r.key) i.reports (reported p.sender (intake m limits.blob keys (roster.own e) p.sender p.shard i.rec).report) going.reports (told_key p.sender _ next.1);
+            reports = all_append (λ (r : Report). R r.key) i.reports (reported p.sender (intake m limits.blob keys (roster.own e) p.sender p.shard i.rec).report) going.reports (told_key p.sender _ next.1);
           }
 
       many : (i : Ingested) (ps : List Sent) → Going i → AllByRecursion (λ p. H c p.sender p.shard) ps → Going (all_taken limits m roster keys e i ps)
@@ -97,7 +95,7 @@ module _ (limits : Limits) (m : Meaning) (a : Assignment) (H : List ℕ → List
       many i (p ∷ ps) going all = many (taken limits m roster keys e i p) ps (one i p going all.0) all.1
 
       ahead : (i : Ingested) → Going i → P (advanced i)
-      ahead i going = cond_both i.gained (tries i.rec) i.rec P (λ _. keeps.tried i.rec going.holds) (λ _. going.holds)
+      ahead i going = grind arith
 
     module _ (s : State) (sound : Sound s) where
       -- box intake, where the store takes any record of which P holds
@@ -172,22 +170,14 @@ module _ (limits : Limits) (m : Meaning) (a : Assignment) (H : List ℕ → List
           let bad : AllByRecursion (λ p. R p.sender) (failing m limits.blob c j) = subst (λ d. AllByRecursion (λ (p : Sent). R p.sender) (failing m limits.blob d j)) (found_key filed_under c s.records r at) (keeps.blamed j r out (held c r at)) in
           record {
             sound = record { records = outliving c ended.rec (keeps.completed j r out (held c r at)); boxes = sound.boxes };
-            reports = All-map (λ (r : Report). R r.key) _ (failing m limits.blob c j) bad;
+            reports = all_map (λ (r : Report). R r.key) _ (failing m limits.blob c j) bad;
           })
 
       looking : (o : Option Phase) → Leaves (block_given limits m roster s o)
-      looking None = record { sound = sound; reports = tt }
-      looking (Some (awaiting w)) = record { sound = sound; reports = tt }
-      looking (Some (cached blob)) = record { sound = sound; reports = tt }
+      looking o = grind arith
 
       answers : (c : List ℕ) (round : Round) → AnnouncedWays limits m roster s (λ t. Counts t.answer) c round
-      answers c round = record {
-        still = λ _ _. tt;
-        stood = λ _ _ _ _ _. tt;
-        led = λ _ _ _ _ _. box_ways limits m roster s (λ t. Counts t.answer) _ _ (λ _. tt) (λ _ _. tt);
-        again = λ _ _ _ _ _. box_ways limits m roster s (λ t. Counts t.answer) _ _ (λ _. tt) (λ _ _. tt);
-        new = λ _ _ _ _. box_ways limits m roster s (λ t. Counts t.answer) _ _ (λ _. tt) (λ _ _. tt);
-      }
+      answers c round = grind arith
 
       done-leaves : (call : Call) → Tells call (done limits m roster s call).answer → Leaves (done limits m roster s call)
       done-leaves (discovery c leader round rooms) tells =

@@ -1,8 +1,8 @@
 -- What holds of every record: where its shards came from, that they are good or may be, and that each index counts once.
 use Rattle.std.proofs.Common.{◌≡◌, ℕ, ◌+◌, ◌-◌, ◌<◌, ◌≤◌, Bool, true, false, leb, ◌⊎◌, List, [], ◌∷◌, ◌++◌, map, length, get_or, set, IfSome, Some, None, Ok, Err, filter, Option, Result, sym, refl, ap, ◌∙◌, subst, inl, inr, ⊎_elim, arith, length-set, length-take}
-use lib.ListN.{length-replicate}
-use Rattle.std.proofs.ByRecursion.{All-append, All-drop, All-push, All-take}
+use Rattle.std.proofs.lemmas.Grind.{common_steps}
 use Rattle.std.proofs.lemmas.Bool.{both_ways, cond_both, eqb-true, leb-true}
+use Rattle.std.proofs.lemmas.List.{get_or-set_same, length-replicate}
 use Rattle.std.specs.List.{AllByRecursion}
 use Rattle.block.specs.declared.blob.Misfit.{Misfit}
 use Rattle.block.specs.declared.kind.Reading.{Reading}
@@ -20,11 +20,12 @@ use Rattle.model.specs.Meaning.{Meaning, Roster, fitted_for, good_for, minimum_o
 use Rattle.model.specs.Promises.{Distinct}
 use Rattle.model.specs.State.{Job, Limits, Phase, awaiting, cached, Rec, Sent, Shards, larger, lower, new_record, with_phase}
 use Rattle.model.specs.Steps.{observes, same_epoch}
-use Rattle.runs.proofs.Entries.{by_option, never_some}
+use Rattle.runs.proofs.Each.{all_append, all_drop, all_filter, all_map, all_take, all_weaker}
+use Rattle.runs.proofs.Entries.{by_option}
 use Rattle.runs.proofs.Intakes.{completes_ways, intake_ways}
 use Rattle.runs.proofs.Places.{assigned_at, assigned_without, index_below, own_below, owned_at, owned_not_own}
 use Rattle.runs.proofs.Reached.{Seated}
-use Rattle.runs.proofs.Tallies.{distinct, flag, flag_kept, flag_most, flag_raised, flag_room, hit, tally, tally_append, tally_kept, tally_map, tally_put, tally_split}
+use Rattle.runs.proofs.Tallies.{distinct, flag, flag_kept, flag_most, flag_set, tally, tally_append, tally_kept, tally_map, tally_put, tally_split}
 use Rattle.std.specs.Ordering.{nat_cmp}
 
 abbrev pub sent_at : Sent → ℕ
@@ -41,7 +42,7 @@ in_play i w = tally index_of i w.checked + tally sent_at i w.pending + at_job i 
 
 raised_parts : (o : Result Reading Misfit) (reading : Reading) → raised o ≡ Ok reading → o ≡ Ok reading
 raised_parts (Ok x) reading h = cc
-raised_parts (Err x) reading h = absurd (let z : ◌≡◌ {A = ℕ} 0 1 = cc in omega arith)
+raised_parts (Err x) reading h = cc
 
 -- H: handed in, of commitment, key and shard; A: announced, of commitment and epoch
 module _ (limits : Limits) (m : Meaning) (a : Assignment) (H : List ℕ → List ℕ → Indexed → Type 0) (A : List ℕ → ℕ → Type 0) where
@@ -99,32 +100,20 @@ module _ (limits : Limits) (m : Meaning) (a : Assignment) (H : List ℕ → List
   FineRecord r = Fine r.commitment r.round.epoch.0 r.contributed r.verified r.phase
 
   pub new_fine : (c : List ℕ) (round : Round) (leader : Option (List ℕ)) → A c round.epoch.0 → FineRecord (new_record c round leader)
-  new_fine c round leader named = record {
-    announced = named;
-    long = length-replicate 64 false;
-    own = λ i _ h. absurd (both_ways false refl h);
-    holds = record { received = tt; checked = tt; pending = tt; job = tt; once = λ i. omega arith };
-  }
+  new_fine c round leader named = grind (arith, common_steps)
 
   pub observed_fine : (roster : Roster) (round : Round) (r : Rec) → same_epoch r.round round ≡ true → FineRecord r → FineRecord (observes limits m roster round r)
-  observed_fine roster round r same fine =
-      let e : (larger r.round round).epoch.0 ≡ r.round.epoch.0 =
-      cond_both (lower r.round round) round r.round (λ z. z.epoch.0 ≡ r.round.epoch.0)
-      (λ _. sym (eqb-true r.round.epoch.0 round.epoch.0 same)) (λ _. refl) in
-      subst (λ n. Fine r.commitment n r.contributed r.verified r.phase) (sym e) fine
+  observed_fine roster round r same fine = grind arith
 
   -- a shard of an index that has not contributed, in the two places that it can go to
   module _ (c : List ℕ) (e : ℕ) (flags : List Bool) (s : Indexed) (long : length flags ≡ 64) (small : s.index < 64) (down : get_or flags s.index false ≡ false) where
-    room : (i : ℕ) → hit i s.index + flag (get_or flags i false) ≤ flag (get_or (set flags s.index true) i false)
-    room i = flag_room flags s.index i (omega arith) down
-
     joins : (w : Shards) → Checked c e s → Awaits c e flags w → Awaits c e (set flags s.index true) (with_received s (w.checked ++ s ∷ []) w)
     joins w checked h = record {
       received = all_put nat_cmp index_of (Received c e) s w.received (record { sender = checked.sender; handed = checked.handed; cause = inl checked.good }) h.received;
-      checked = All-push (Checked c e) w.checked s h.checked checked;
+      checked = all_append (Checked c e) w.checked (s ∷ []) h.checked (checked, tt);
       pending = h.pending;
       job = h.job;
-      once = λ i. let r = room i in let n = h.once i in let t = tally_append index_of i w.checked (s ∷ []) in omega arith;
+      once = λ i. let r = flag_set flags s.index i (omega arith) down in let n = h.once i in let t = tally_append index_of i w.checked (s ∷ []) in omega arith;
     }
 
     pends : (sender : List ℕ) (w : Shards) → H c sender s → index sender (a.keys e) ≡ Some s.index → (a.own e ≡ Some s.index → ⊥) → Awaits c e flags w → Awaits c e (set flags s.index true) (with_pending (record { sender = sender; shard = s }) w)
@@ -133,7 +122,7 @@ module _ (limits : Limits) (m : Meaning) (a : Assignment) (H : List ℕ → List
       checked = h.checked;
       pending = all_put order sender_of (Pending c e) (record { sender = sender; shard = s }) w.pending (record { handed = handed; placed = placed }) h.pending;
       job = h.job;
-      once = λ i. let r = room i in let n = h.once i in let t = tally_put sent_at order sender_of i (record { sender = sender; shard = s }) w.pending in omega arith;
+      once = λ i. let r = flag_set flags s.index i (omega arith) down in let n = h.once i in let t = tally_put sent_at order sender_of i (record { sender = sender; shard = s }) w.pending in omega arith;
     }
 
     joined_holds : (p : Phase) → Checked c e s → Holds c e flags p → Holds c e (set flags s.index true) (joined s p)
@@ -144,7 +133,7 @@ module _ (limits : Limits) (m : Meaning) (a : Assignment) (H : List ℕ → List
   module _ (keys : List (List ℕ)) (own : Option ℕ) (sender : List ℕ) (s : Indexed) (r : Rec) (seat : Seated a r.round.epoch.0 keys own) (handed : H r.commitment sender s) (fine : FineRecord r) where
     -- a member's index, the own one or its sender's, is below the members
     within : (i : ℕ) → i < length keys → i < length (a.keys r.round.epoch.0)
-    within i h = subst (λ ks. i < length ks) seat.keys_are h
+    within i h = grind arith
 
     few : length keys ≤ 64
     few = seat.fair.0
@@ -169,7 +158,7 @@ module _ (limits : Limits) (m : Meaning) (a : Assignment) (H : List ℕ → List
           long = length-set r.contributed s.index true ∙ long;
           own = λ i is _.
               let same = assigned_at r.leader sender place s.index own i class (seat.own_is ∙ is) in
-              subst (λ j. get_or (set r.contributed s.index true) j false ≡ true) same (flag_raised r.contributed s.index (omega arith));
+              subst (λ j. get_or (set r.contributed s.index true) j false ≡ true) same (get_or-set_same r.contributed s.index true false (omega arith));
           holds =
               joined_holds r.commitment r.round.epoch.0 r.contributed s long (omega arith) down r.phase
               (record { good = good; below = within s.index l; sender = sender; handed = handed }) fine.holds;
@@ -192,15 +181,7 @@ module _ (limits : Limits) (m : Meaning) (a : Assignment) (H : List ℕ → List
 
     -- a shard that waits is at its sender's index, which is not this node's
     pub waits_placed : (place : ℕ) → get_or r.contributed s.index false ≡ false → ((classed own r.leader sender place s.index ≡ assigned) × (r.verified ≡ true)) ⊎ (classed own r.leader sender place s.index ≡ owned) → (s.index ≡ place) × (own ≡ Some s.index → ⊥)
-    waits_placed place down =
-        ⊎_elim
-        (λ h.
-        let apart : own ≡ Some s.index → ⊥ = λ is. both_ways (get_or r.contributed s.index false) down (fine.own s.index (sym seat.own_is ∙ is) h.1) in
-        by_option (λ o. own ≡ o → (s.index ≡ place) × (own ≡ Some s.index → ⊥)) own
-        (λ none _. (assigned_without r.leader sender place s.index own h.0 none, apart))
-        (λ o is _. absurd (apart (is ∙ ap Some (sym (assigned_at r.leader sender place s.index own o h.0 is)))))
-        refl)
-        (λ class. (owned_at r.leader sender place s.index own class, owned_not_own r.leader sender place s.index own class))
+    waits_placed place down class = grind arith
 
     pub taken_fine : FineRecord (intake m limits.blob keys own sender s r).rec
     taken_fine =
@@ -224,10 +205,10 @@ module _ (limits : Limits) (m : Meaning) (a : Assignment) (H : List ℕ → List
       record {
         received = h.received;
         checked = tt;
-        pending = All-drop (Pending c e) n w.pending h.pending;
+        pending = all_drop (Pending c e) n w.pending h.pending;
         job = record {
           checked = h.checked;
-          pending = All-take (Pending c e) n w.pending h.pending;
+          pending = all_take (Pending c e) n w.pending h.pending;
           enough = let l = length-take n w.pending in omega arith;
         };
         once = λ i. let o = h.once i in let t = tally_split sent_at i n w.pending in omega arith;
@@ -253,17 +234,15 @@ module _ (limits : Limits) (m : Meaning) (a : Assignment) (H : List ℕ → List
 
   -- a pending shard that is good counts as checked
   good_pending : (c : List ℕ) (e : ℕ) (ps : List Sent) → AllByRecursion (Pending c e) ps → AllByRecursion (Checked c e) (filter (good_for m limits.blob c) (map shard_of ps))
-  good_pending c e [] all = tt
-  good_pending c e (p ∷ ps) all =
-      let rest = filter (good_for m limits.blob c) (map shard_of ps) in
-      cond_both (good_for m limits.blob c p.shard) (p.shard ∷ rest) rest (AllByRecursion (Checked c e))
-      (λ t.
-      (record { good = t; below = index_below p.sender (a.keys e) p.shard.index all.0.placed; sender = p.sender; handed = all.0.handed }, good_pending c e ps all.1))
-      (λ _. good_pending c e ps all.1)
+  good_pending c e ps all =
+      let Brought : Indexed → Type 0 = λ x. (k : List ℕ) × H c k x × (index k (a.keys e) ≡ Some x.index) in
+      all_filter Brought (Checked c e) (good_for m limits.blob c)
+      (λ x t b. record { good = t; below = index_below b.0 (a.keys e) x.index b.2; sender = b.0; handed = b.1 }) (map shard_of ps)
+      (all_map Brought shard_of ps (all_weaker (Pending c e) (λ p. Brought p.shard) (λ p k. (p.sender, k.handed, k.placed)) ps all))
 
   pub passing_checked : (c : List ℕ) (e : ℕ) (j : Job) → Out c e j → AllByRecursion (Checked c e) (passing m limits.blob c j)
   passing_checked c e j out =
-      All-append (Checked c e) j.checked (filter (good_for m limits.blob c) (map shard_of j.pending)) out.checked (good_pending c e j.pending out.pending)
+      all_append (Checked c e) j.checked (filter (good_for m limits.blob c) (map shard_of j.pending)) out.checked (good_pending c e j.pending out.pending)
 
   pub passing_once : (c : List ℕ) (i : ℕ) (j : Job) → tally index_of i (passing m limits.blob c j) ≤ at_job i (Some j)
   passing_once c i j =
@@ -274,8 +253,7 @@ module _ (limits : Limits) (m : Meaning) (a : Assignment) (H : List ℕ → List
 
   -- the job that is out, from the phase
   pub out_of : (c : List ℕ) (e : ℕ) (flags : List Bool) (p : Phase) (j : Job) → job_in p ≡ Some j → Holds c e flags p → Out c e j
-  out_of c e flags (awaiting w) j out h = subst (λ o. IfSome o (Out c e)) out h.job
-  out_of c e flags (cached blob) j out h = never_some j (Out c e j) out
+  out_of c e flags p j out h = grind arith
 
   out_once : (c : List ℕ) (e : ℕ) (flags : List Bool) (p : Phase) (j : Job) → job_in p ≡ Some j → Holds c e flags p → (i : ℕ) → at_job i (Some j) ≤ 1
   out_once c e flags (awaiting w) j out h i =
@@ -283,14 +261,14 @@ module _ (limits : Limits) (m : Meaning) (a : Assignment) (H : List ℕ → List
       let same = ap (at_job i) out in
       let most = flag_most (get_or flags i false) in
       omega arith
-  out_once c e flags (cached blob) j out h i = never_some j (at_job i (Some j) ≤ 1) out
+  out_once c e flags (cached blob) j out h i = cc
 
   returned_holds : (c : List ℕ) (e : ℕ) (flags : List Bool) (p : Phase) (j : Job) → job_in p ≡ Some j → Holds c e flags p → Holds c e flags (returned_in (passing m limits.blob c j) p)
   returned_holds c e flags (awaiting w) j out h =
       let shards = passing m limits.blob c j in
       record {
         received = h.received;
-        checked = All-append (Checked c e) w.checked shards h.checked (passing_checked c e j (out_of c e flags (awaiting w) j out h));
+        checked = all_append (Checked c e) w.checked shards h.checked (passing_checked c e j (out_of c e flags (awaiting w) j out h));
         pending = h.pending;
         job = tt;
         once = λ i.
@@ -304,8 +282,7 @@ module _ (limits : Limits) (m : Meaning) (a : Assignment) (H : List ℕ → List
 
   -- shards that give a block opened to a blob that fits
   rebuilt_parts : (c : List ℕ) (o : Opened) (reading : Reading) → rebuilt m.digest m.reads c o ≡ Ok reading → (o ≡ Ok (blob_in o)) × (fitted_for m limits.blob c (blob_in o) ≡ Ok reading)
-  rebuilt_parts c (Ok blob) reading h = (refl, raised_parts (fitted_for m limits.blob c blob) reading h)
-  rebuilt_parts c (Err f) reading h = absurd (let z : ◌≡◌ {A = ℕ} 0 1 = cc in omega arith)
+  rebuilt_parts c o reading h = grind arith
 
   pub completed_fine : (j : Job) (r : Rec) → job_in r.phase ≡ Some j → FineRecord r → IfSome (completes m limits.blob j r).rec FineRecord
   completed_fine j r out fine =

@@ -70,9 +70,7 @@ module _ (limits : Limits) (m : Meaning) (roster : Roster) (s : State) (up : Asc
     within : length (within_window limits m roster t).state.records ≤ limits.window
 
   still : (o : Outcome) → says_held o ≡ false → Announcing (stays limits m roster o s)
-  still o unheld =
-      let same = Entries.trimmed_few round_of filed_under limits.window s.records few in
-      record { follows = simp unheld (ap (map entry_of) (sym same)); ascend = subst (Ascends order filed_under) (sym same) up; within = subst (λ rs. length rs ≤ limits.window) (sym same) few }
+  still o unheld = grind arith
 
   stood : (o : Outcome) (ps : List Peer) (rs : List Report) (a : Option Action) (r x : Rec) → says_held o ≡ true → record_of c s ≡ Some r → entry_of x ≡ raised round (entry_of r) → Announcing (record { state = record { records = replaced x s.records; peers = ps }; answer = answered o rs a })
   stood o ps rs a r x held at same =
@@ -189,9 +187,7 @@ module _ (limits : Limits) (m : Meaning) (roster : Roster) (s : State) (up : Asc
       }))
 
   looked : (c : List ℕ) (room : ℕ) (o : Option Phase) → Follows limits.window (block_look_up c room) s (block_given limits m roster s o)
-  looked c room None = record { follows = refl; ascend = up; within = few }
-  looked c room (Some (awaiting w)) = record { follows = refl; ascend = up; within = few }
-  looked c room (Some (cached blob)) = record { follows = refl; ascend = up; within = few }
+  looked c room o = grind arith
 
   done_follows : (call : Call) → Follows limits.window call s (done limits m roster s call)
   done_follows (discovery c leader round rooms) =
@@ -209,13 +205,7 @@ module _ (limits : Limits) (m : Meaning) (roster : Roster) (s : State) (up : Asc
   done_follows (verified_look_up c) = record { follows = refl; ascend = up; within = few }
 
   turned : (refusal : Refusal) (call : Call) → Follows limits.window call s (record { state = s; answer = refused refusal })
-  turned refusal (discovery c leader round rooms) = record { follows = refl; ascend = up; within = few }
-  turned refusal (notarization c round rooms) = record { follows = refl; ascend = up; within = few }
-  turned refusal (shard c peer x rooms) = record { follows = refl; ascend = up; within = few }
-  turned refusal (completion c rooms) = record { follows = refl; ascend = up; within = few }
-  turned refusal (peer_change ks) = record { follows = refl; ascend = up; within = few }
-  turned refusal (block_look_up c room) = record { follows = refl; ascend = up; within = few }
-  turned refusal (verified_look_up c) = record { follows = refl; ascend = up; within = few }
+  turned refusal call = grind arith
 
   pub step_follows : (call : Call) → Follows limits.window call s (step limits m roster call s)
   unfolding step

@@ -1,5 +1,5 @@
 -- What each call can come to, with what led there: whatever holds of each way holds of the call.
-use Rattle.std.proofs.Common.{◌≡◌, ℕ, true, false, List, [], is_some, Some, None, Option, refl, ap}
+use Rattle.std.proofs.Common.{◌≡◌, ℕ, true, false, List, [], is_some, Some, None, Option, refl, ap, arith}
 use Rattle.std.proofs.lemmas.Bool.{cond_both}
 use Rattle.register.specs.declared.counters.Round.{Round}
 use Rattle.rosters.specs.Sound.{index}
@@ -21,8 +21,7 @@ use Rattle.runs.proofs.Intakes.{by_phases}
 module _ (limits : Limits) (m : Meaning) (roster : Roster) (s : State) (Q : Step → Type 0) where
   -- box intake draws nothing where the epoch is unknown
   pub box_ways : (store : Rec → List Rec) (r : Rec) → (roster.keys r.round.epoch.0 ≡ None → Q (record { state = with_records (store r) s; answer = answered Held [] None })) → ((keys : List (List ℕ)) → roster.keys r.round.epoch.0 ≡ Some keys → Q (drew limits m roster store Held (all_left (wants limits m roster keys r) s.peers) (all_taken limits m roster keys r.round.epoch.0 (began r) (all_drawn (wants limits m roster keys r) s.peers)))) → Q (box_intake limits m roster store r s)
-  box_ways store r none some =
-      by_option (λ o. Q (draws limits m roster store Held o r s)) (roster.keys r.round.epoch.0) none some
+  box_ways store r none some = grind arith
 
   -- discovery and notarization of c at a round
   pub record AnnouncedWays (c : List ℕ) (round : Round) : Type 0 where
@@ -34,14 +33,10 @@ module _ (limits : Limits) (m : Meaning) (roster : Roster) (s : State) (Q : Step
 
   module _ (c : List ℕ) (round : Round) (ways : AnnouncedWays c round) where
     entering : (leader : Option (List ℕ)) → record_of c s ≡ None → is_some (roster.keys round.epoch.0) ≡ true → Q (enters limits m roster c round leader s)
-    entering leader none known =
-        cond_both (admits round_of filed_under limits.window round s.records) (box_intake limits m roster (λ x. entered x s.records) (new_record c round leader) s) (stays limits m roster Declined s) Q
-        (λ t. ways.new leader none known t) (λ _. ways.still Declined refl)
+    entering leader none known = grind arith
 
     leading : (leader : List ℕ) (r : Rec) → record_of c s ≡ Some r → same_epoch r.round round ≡ true → Q (discovers limits m roster leader r.leader (observes limits m roster round r) s)
-    leading leader r at same =
-        by_option (λ l. Q (discovers limits m roster leader l (observes limits m roster round r) s)) r.leader
-        (λ n. ways.led leader r at same n) (λ l _. ways.stood LeaderStands r refl at same)
+    leading leader r at same = grind arith
 
     pub discovery_ways : (leader : List ℕ) → Q (discovery_of limits m roster c leader round s)
     unfolding discovery_of
@@ -82,9 +77,7 @@ module _ (limits : Limits) (m : Meaning) (roster : Roster) (s : State) (Q : Step
   module _ (c peer : List ℕ) (x : Indexed) (ways : ShardWays c peer x) where
     boxing : Q (boxes_shard limits m roster c peer x s)
     unfolding boxes_shard
-    boxing =
-        cond_both (is_primary peer s.peers) (stays limits m roster Boxed (with_peers (boxes_with limits.boxes peer (record { commitment = c; shard = x }) s.peers) s)) (stays limits m roster NotBoxed s) Q
-        (λ t. ways.boxed t) (λ _. ways.still NotBoxed)
+    boxing = grind arith
 
     pub shard_ways : Q (shard_of limits m roster c peer x s)
     unfolding shard_of
@@ -105,7 +98,4 @@ module _ (limits : Limits) (m : Meaning) (roster : Roster) (s : State) (Q : Step
   -- a job is completed
   pub completion_ways : (c : List ℕ) → Q (record { state = s; answer = refused NoJob }) → ((r : Rec) (j : Job) → record_of c s ≡ Some r → job_in r.phase ≡ Some j → Q (ends limits m roster c j s (completes m limits.blob j r))) → Q (completion_of limits m roster c s)
   unfolding completion_of
-  completion_ways c none some =
-      by_option (λ o. Q (completion_by limits m roster c s o)) (record_of c s)
-      (λ _. none)
-      (λ r at. by_option (λ o. Q (completed_by limits m roster c s r o)) (job_in r.phase) (λ _. none) (λ j out. some r j at out))
+  completion_ways c none some = grind arith
