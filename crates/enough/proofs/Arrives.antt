@@ -15,7 +15,7 @@ use Rattle.model.specs.State.{Limits, Phase, awaiting, cached, Rec, State, filed
 use Rattle.model.specs.Steps.{Ingested, Step, advanced, began, boxes_shard, by_phase, in_epoch, known_shard, shard_by, shard_of, stays, taken, takes_shard, too_early}
 use Rattle.model.specs.declared.answer.Outcome.TheVariants.{NoEpoch, Ignored, Boxed, NotBoxed, Gain, NoGain}
 use Rattle.runs.proofs.Boxes.{boxed-filled}
-use Rattle.runs.proofs.Entries.{by_option, found_key, never_some}
+use Rattle.runs.proofs.Entries.{by_option, found_key}
 use Rattle.runs.proofs.Rolls.{advanced_entry, intake_entry}
 use Rattle.runs.proofs.Ways.{shard_ways}
 use Rattle.enough.proofs.Draws.{Grown, advanced_grown, good_here, known, row_all, row-began, took}
@@ -100,7 +100,7 @@ module _ (limits : Limits) (m : Meaning) (a : Assignment) (c : List ℕ) (ep : �
     unfolding shard_of
     shard_here =
         by_option (λ o. FineHere (shard_by limits m roster c peer x s o)) (record_of c s)
-        (λ none. boxing (λ r at. never_some r _ (sym none ∙ at)))
+        (λ none. boxing (λ r at. cc))
         (λ r at.
         cond_both (by_phase r.phase false r.verified) (stays limits m roster Ignored s) (in_epoch limits m roster (roster.keys r.round.epoch.0) (known_shard limits m roster peer x r s) s) FineHere
         (λ whole. unchanged (stays limits m roster Ignored s) boxes up refl

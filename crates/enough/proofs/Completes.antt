@@ -10,7 +10,7 @@ use Rattle.model.specs.Meaning.{Meaning, Roster, minimum_of}
 use Rattle.model.specs.State.{Job, Limits, Rec, State, filed_under, record_of, with_phase}
 use Rattle.model.specs.Steps.{bad_senders, completion_of, ends}
 use Rattle.model.specs.declared.answer.Refusal.TheVariants.{NoJob}
-use Rattle.runs.proofs.Entries.{differ, entry_laws, found_key, never_some}
+use Rattle.runs.proofs.Entries.{differ, entry_laws, found_key}
 use Rattle.runs.proofs.Intakes.{completes_ways}
 use Rattle.runs.proofs.Rolls.{tries_entry}
 use Rattle.runs.proofs.Ways.{completion_ways}
@@ -37,7 +37,7 @@ module _ (limits : Limits) (m : Meaning) (a : Assignment) (c : List ℕ) (ep : �
       go None same left = record {
         boxes = boxes;
         ascend = (entry_laws filed_under).without_ascends c s.records up;
-        moved = λ q here in_epoch_now. never_some q _ (sym ((entry_laws filed_under).without_gone c s.records up) ∙ here);
+        moved = λ q here in_epoch_now. let gone = (entry_laws filed_under).without_gone c s.records up in cc;
       }
       go (Some x) same left =
           placed limits m a c ep Hand roster (completion c rooms) s es up r x s.peers answer at same.0 same.1 boxes

@@ -11,11 +11,10 @@ use Rattle.model.specs.Jobs.{tried_in, tries}
 use Rattle.model.specs.Meaning.{Meaning, Roster, good_for, minimum_of}
 use Rattle.model.specs.State.{Limits, Rec, Sent, with_phase}
 use Rattle.model.specs.Steps.{Ingested, advanced, all_taken, began, taken}
-use Rattle.runs.proofs.Places.{own_below}
+use Rattle.runs.proofs.Places.{holds, own_below}
 use Rattle.runs.proofs.Reached.{seated}
 use Rattle.enough.proofs.Ends.{tried_phase}
 use Rattle.enough.proofs.Held.{GivenTo, Settled, Sound}
-use Rattle.enough.proofs.Members.{holds}
 use Rattle.enough.proofs.Takes.{Took, taken_in}
 
 -- what a roster that knows the epoch tells of it

@@ -13,7 +13,6 @@ use Rattle.model.specs.Promises.{CachedAbove}
 use Rattle.model.specs.declared.answer.Outcome.{Outcome}
 use Rattle.model.specs.State.{Job, Phase, awaiting, cached, Rec, Sent, Shards, with_phase}
 use Rattle.runs.proofs.Each.{all_append, all_drop, all_take}
-use Rattle.runs.proofs.Entries.{never_some}
 use Rattle.runs.proofs.Records.{sent_at}
 use Rattle.runs.proofs.Tallies.{flag_most, hit, tally, tally_append, tally_split}
 use Rattle.enough.proofs.Counting.{itself}
@@ -186,7 +185,7 @@ module _ (m : Meaning) (limit : ℕ) (keys : List (List ℕ)) (own : Option ℕ)
 -- the job that is out, in its phase
 job_phase : (ph : Phase) (j : Job) → job_in ph ≡ Some j → (w : Shards) × (ph ≡ awaiting (with_job (Some j) w))
 job_phase (awaiting w) j h = (w, ap (λ o. awaiting (with_job o w)) h)
-job_phase (cached blob) j h = never_some j _ h
+job_phase (cached blob) j h = cc
 
 pub ended_well : (m : Meaning) (limit : ℕ) (keys : List (List ℕ)) (own : Option ℕ) (Hand : List ℕ → Indexed → Type 0) (c : List ℕ) (r : Rec) (j : Job) (lost : List ℕ) →
     r.commitment ≡ c → job_in r.phase ≡ Some j → Sound (good_for m limit c) (minimum_of c) keys own Hand lost r → AllByRecursion (Lost (good_for m limit c) (minimum_of c) keys own Hand) lost →

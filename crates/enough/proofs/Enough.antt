@@ -1,7 +1,7 @@
 -- Enough good shards bring the block: at least as many are in play as the minimum, and no more can be lost than are left.
 use Rattle.std.proofs.Common.{◌≡◌, ℕ, ◌+◌, ◌-◌, ◌<◌, ◌≤◌, Bool, true, false, leb, ◌⊎◌, List, [], ◌++◌, map, length, get_or, is_some, Some, None, Ok, Err, filter, Option, sym, refl, ap, ◌∙◌, subst, inl, inr, ⊎_elim, arith, length-append}
 use Rattle.std.proofs.lemmas.Option.{same_Some}
-use lib.ListN.{length-map}
+use Rattle.std.proofs.lemmas.List.{length-map}
 use Rattle.std.proofs.lemmas.Bool.{both_ways, cases_lt, cond_both}
 use Rattle.std.specs.Option.{option_map}
 use Rattle.std.specs.List.{AllByRecursion}
@@ -18,8 +18,8 @@ use Rattle.model.specs.State.{Job, Limits, Phase, awaiting, cached, Rec, Shards,
 use Rattle.model.specs.Steps.{block_given, completed_by, completion_by, completion_of, step, unless_refused}
 use Rattle.model.specs.declared.answer.Refusal.{Refusal}
 use Rattle.model.specs.declared.answer.Refusal.TheVariants.{Malformed, NoBlock, Buffer}
-use Rattle.runs.proofs.Each.{all_append, all_weaker}
-use Rattle.runs.proofs.Entries.{by_option, found_key, never_some}
+use Rattle.runs.proofs.Each.{all_append, all_weaker, all_with}
+use Rattle.runs.proofs.Entries.{by_option, found_key}
 use Rattle.runs.proofs.Intakes.{completes_ways}
 use Rattle.runs.proofs.Rolls.{roll_record}
 use Rattle.runs.specs.Rolls.{entry_of}
@@ -28,7 +28,6 @@ use Rattle.runs.proofs.Records.{at_job, sent_at}
 use Rattle.runs.proofs.Tallies.{distinct, flag, flag_most, tally, tally_append, tally_map}
 use Rattle.enough.proofs.Counting.{counted, covered, crowded, itself, once_each}
 use Rattle.enough.proofs.Ends.{good_checked, lost_once, sorted_out}
-use Rattle.enough.proofs.Flags.{all_with}
 use Rattle.enough.proofs.Held.{Checked, Given, GivenTo, InPhase, Jobbed, Lost, Settled, Waiting, few_with}
 use Rattle.enough.proofs.Live.{Live, ended_above_more}
 use Rattle.enough.proofs.Members.{own_place}
@@ -170,7 +169,7 @@ module _ (limits : Limits) (m : Meaning) (a : Assignment) (h : List Event) (c : 
         let whole : rebuilt_for m limits.blob c (passing m limits.blob c j) ≡ Ok opens.reading =
         ap (rebuilt m.digest m.reads c) opens.opens ∙ ap raised opens.fits in
         let wrong : Ok opens.reading ≡ Err e = sym whole ∙ bad in
-        let z : ◌≡◌ {A = ℕ} 0 1 = cc in omega arith
+        cc
 
     goes_on : (w : Shards) (j : Job) → r.commitment ≡ c → WaitingHere w →
         w.job ≡ Some j → GoesOn (completes m limits.blob j r).outcome
@@ -200,7 +199,7 @@ module _ (limits : Limits) (m : Meaning) (roster : Roster) (s : State) (c : List
       let is = look_is room (turned_down limits s (block_look_up c room)) in
       let here : look_answer (unless true Malformed (gives room (Some (cached blob)))) (Some (cached blob)) ≡ refused NoBlock → ⊥ =
       cond_both (leb (length (block_in blob)) room) None (Some Buffer) (λ t. look_answer t (Some (cached blob)) ≡ refused NoBlock → ⊥)
-      (λ _ wrong. let z : ◌≡◌ {A = ℕ} 0 1 = cc in omega arith) (λ _ wrong. let z : ◌≡◌ {A = ℕ} 0 1 = cc in omega arith) in
+      (λ _ wrong. cc) (λ _ wrong. cc) in
       subst (λ x. x ≡ refused NoBlock → ⊥) (sym is)
       (subst (λ o. look_answer (unless (is_commitment c) Malformed (gives room o)) o ≡ refused NoBlock → ⊥) (sym at)
       (subst (λ b. look_answer (unless b Malformed (gives room (Some (cached blob)))) (Some (cached blob)) ≡ refused NoBlock → ⊥) (sym proper) here))
@@ -219,7 +218,7 @@ module _ (limits : Limits) (m : Meaning) (roster : Roster) (s : State) (c : List
 
 -- the record that the roll speaks of
 recorded : (o : Option Rec) (entry : Entry) → option_map entry_of o ≡ Some entry → (r : Rec) × (o ≡ Some r) × (entry_of r ≡ entry)
-recorded None entry h = never_some entry _ h
+recorded None entry h = cc
 recorded (Some r) entry h = (r, refl, same_Some (entry_of r) entry h)
 
 pub brought : (limits : Limits) (m : Meaning) (a : Assignment) (h : List Event) (s : State) (roster : Roster) → Leads limits m a h s → Agrees a roster → EnoughBringTheBlock limits m a h (λ call. (step limits m roster call s).answer)

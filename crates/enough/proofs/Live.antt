@@ -1,6 +1,6 @@
 -- What is true of the record of a commitment and of the events since its admission, and how a call carries it on.
 use Rattle.std.proofs.Common.{◌≡◌, ℕ, zero, suc, ◌≤◌, true, false, cond, eqb, List, [], ◌∷◌, length, get_or, replicate, is_ok, Some, Ok, Err, Option, refl, ⊎_elim, le_trans, arith}
-use lib.ListN.{length-replicate}
+use Rattle.std.proofs.lemmas.List.{length-replicate}
 use Rattle.std.proofs.lemmas.Bool.{both_ways, cond_both, eqb-false}
 use Rattle.std.specs.List.{AllByRecursion}
 use Rattle.register.specs.Commitments.{config_of}

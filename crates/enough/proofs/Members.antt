@@ -9,16 +9,11 @@ use Rattle.table.proofs.Orders.{itself}
 use Rattle.runs.proofs.Each.{all_get_or, all_weaker}
 use Rattle.runs.proofs.Entries.{byte_laws}
 
-less : (o : Ordering) → is_lt o ≡ true → o ≡ Less
-less Less h = refl
-less Equal h = cc
-less Greater h = cc
-
 all_rises : (k : List ℕ) (ks : List (List ℕ)) → rises k ks ≡ true → AllByRecursion (λ l. order k l ≡ Less) ks
 all_rises k [] up = tt
 all_rises k (l ∷ ks) up =
     let parts = and_parts (is_lt (order k l)) (rises l ks) up in
-    let low = less (order k l) parts.0 in
+    let low : order k l ≡ Less = grind arith in
     (low, all_weaker (λ x. order l x ≡ Less) (λ x. order k x ≡ Less) (λ x h. byte_laws.ascends k l x low h) ks (all_rises l ks parts.1))
 
 rises_on : (k : List ℕ) (ks : List (List ℕ)) → rises k ks ≡ true → ascending ks ≡ true
@@ -32,7 +27,3 @@ own_place (k ∷ ks) zero up h = simp (itself order byte_laws k)
 own_place (k ∷ ks) (suc i) up h =
     let low = all_get_or (λ l. order k l ≡ Less) ks i [] (le_of_suc-le-suc h) (all_rises k ks up) in
     simp (low, own_place ks i (rises_on k ks up) (le_of_suc-le-suc h))
-
-pub holds : (b : Bool) → T b → b ≡ true
-holds true t = refl
-holds false t = absurd t

@@ -1,6 +1,7 @@
 -- A call that leaves the record of a commitment alone, replaces it, or lets one in; and box intake for it.
-use Rattle.std.proofs.Common.{◌≡◌, ℕ, Bool, true, false, ◌⊎◌, List, [], ◌∷◌, length, is_some, Some, None, Option, sym, refl, ap, ◌∙◌, subst, inl, inr, arith}
+use Rattle.std.proofs.Common.{◌≡◌, ℕ, Bool, true, false, ◌⊎◌, List, [], ◌∷◌, length, is_some, Some, None, Option, sym, refl, ap, ◌∙◌, subst, inl, inr, ⊎_elim, arith}
 use Rattle.std.proofs.lemmas.Slice.Eq.{bytes_eq-Decides}
+use Rattle.std.proofs.lemmas.Bool.{cases_Bool, iff_false}
 use Rattle.std.proofs.lemmas.Option.{same_Some}
 use Rattle.std.specs.List.{AllByRecursion}
 use Rattle.std.specs.Str.{bytes_eq}
@@ -23,11 +24,8 @@ use Rattle.enough.proofs.Held.{GivenTo, Settled}
 use Rattle.enough.proofs.Live.{Live, next}
 
 pub cases_same : (x y : List ℕ) → (x ≡ y) ⊎ (x ≡ y → ⊥)
-cases_same x y = go (bytes_eq x y) refl
-  where
-    go : (b : Bool) → bytes_eq x y ≡ b → (x ≡ y) ⊎ (x ≡ y → ⊥)
-    go true t = inl ((bytes_eq-Decides x y).0 t)
-    go false f = inr (λ same. let z : ◌≡◌ {A = Bool} true false = sym ((bytes_eq-Decides x y).1 same) ∙ f in let w : ◌≡◌ {A = ℕ} 0 1 = cc in omega arith)
+cases_same x y =
+    ⊎_elim (λ t. inl ((bytes_eq-Decides x y).0 t)) (λ f. inr (iff_false (bytes_eq-Decides x y) f)) (cases_Bool (bytes_eq x y))
 
 -- an entry of a box for the commitment was handed in by the box's peer
 abbrev pub For : List ℕ → (List ℕ → Indexed → Type 0) → List ℕ → List ℕ → Indexed → Type 0

@@ -13,7 +13,7 @@ use Rattle.model.specs.State.{Limits, Phase, awaiting, cached, Rec, State, filed
 use Rattle.model.specs.Steps.{Step, block_given, done, completion_of, discovery_of, notarization_of, shard_of, step, unless_refused}
 use Rattle.model.specs.declared.answer.Refusal.{Refusal}
 use Rattle.runs.proofs.Boxes.{renewed-filled}
-use Rattle.runs.proofs.Entries.{by_option, never_some}
+use Rattle.runs.proofs.Entries.{by_option}
 use Rattle.runs.proofs.Rolls.{records_ascend, roll_record}
 use Rattle.runs.proofs.Ways.{discovery_ways, notarization_ways, shard_ways}
 use Rattle.runs.specs.Rolls.{entry_of}
@@ -26,7 +26,7 @@ use Rattle.enough.proofs.Moves.{Fine, For, Moved, OwnBoxes, Silent, cases_same, 
 -- a test that was passed
 passed : (b : Bool) (r : Refusal) (o : Option Refusal) → unless b r o ≡ None → b ≡ true
 passed true r o h = refl
-passed false r o h = never_some r _ (sym h)
+passed false r o h = cc
 
 module _ (limits : Limits) (m : Meaning) (a : Assignment) (c : List ℕ) (ep : ℕ) (Hand : List ℕ → Indexed → Type 0) where
   module _ (roster : Roster) (s : State) (es : List Event) (agrees : Agrees a roster) (boxes : OwnBoxes c Hand s.peers) (up : Ascends order filed_under s.records) where
@@ -109,7 +109,7 @@ module _ (limits : Limits) (m : Meaning) (a : Assignment) (c : List ℕ) (ep : �
 
   pub standing : (h : List Event) (s : State) → Leads limits m a h s → ((k : List ℕ) (x : Indexed) → HandedIn h c k x → Hand k x) → Standing h s
   standing [] s l handed =
-      subst (Standing []) (sym l) (record { boxes = tt; live = λ r at. never_some r _ at })
+      subst (Standing []) (sym l) (record { boxes = tt; live = λ r at. cc })
   standing (e ∷ h) s l handed =
       let before = l.0 in
       let old = standing h before l.1 (λ k x p. handed k x (inr p)) in

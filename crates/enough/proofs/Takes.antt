@@ -1,6 +1,7 @@
 -- Intake keeps a record sound, and a member's good shard at its own index has then contributed there.
 use Rattle.std.proofs.Common.{◌≡◌, ℕ, ◌<◌, ◌≤◌, Bool, true, false, cond, eqb, List, [], ◌∷◌, ◌++◌, length, get_or, set, Some, None, Option, Equal, sym, refl, ap, ◌∙◌, arith, length-set}
 use Rattle.std.proofs.lemmas.Bool.{and_parts, both_ways, cond_both, eq-eqb, eqb-true}
+use Rattle.std.proofs.lemmas.List.{get_or-set_same}
 use Rattle.std.proofs.lemmas.Option.{same_Some}
 use Rattle.std.specs.Str.{bytes_eq}
 use Rattle.register.specs.ByteOrder.{order_same}
@@ -13,13 +14,12 @@ use Rattle.model.specs.Intake.{Class, assigned, owned, stray, Taken, arrives, ch
 use Rattle.model.specs.State.{Phase, awaiting, cached, Rec, Sent, Shards, with_phase}
 use Rattle.model.specs.declared.answer.Reason.{Reason}
 use Rattle.model.specs.declared.answer.Reason.TheVariants.{Stranger, WrongIndex, Equivocation, BadAssigned}
-use Rattle.runs.proofs.Each.{all_append, all_weaker}
-use Rattle.runs.proofs.Entries.{by_option, never_some, number_laws, number_same}
+use Rattle.runs.proofs.Each.{all_append, all_weaker, all_with}
+use Rattle.runs.proofs.Entries.{by_option, number_laws, number_same}
 use Rattle.runs.proofs.Places.{index_below}
 use Rattle.runs.proofs.Records.{sent_at}
-use Rattle.runs.proofs.Tallies.{flag, flag_kept, flag_raised, tally, tally_append}
-use Rattle.enough.proofs.Counting.{itself, none_here}
-use Rattle.enough.proofs.Flags.{all_with, put_tally, set_bit}
+use Rattle.runs.proofs.Tallies.{flag, flag_kept, flag_set, none_there, tally, tally_append, tally_put_new}
+use Rattle.enough.proofs.Counting.{itself}
 use Rattle.enough.proofs.Held.{Checked, GivenTo, InPhase, Pending, Sound, Waiting}
 use Rattle.std.specs.Ordering.{nat_cmp}
 
@@ -35,12 +35,12 @@ module _ (good : Indexed → Bool) (minimum : ℕ) (keys : List (List ℕ)) (own
       let none : tally sent_at i w.pending ≡ 0 = let t = k.tallied i in let b : flag (get_or flags i false) ≡ 0 = rw off in omega arith in
       let new = all_with (Pending good minimum keys own Hand) (λ x. i ≡ sent_at x → ⊥) (λ x. order x.sender sender ≡ Equal → ⊥)
       (λ x h n q. n (same_Some i (sent_at x) (sym place ∙ ap (λ a. index a keys) (sym (order_same x.sender sender q)) ∙ h.place)))
-      w.pending k.pending (none_here sent_at i w.pending none) in
+      w.pending k.pending (none_there sent_at i w.pending none) in
       record {
         long = length-set flags i true ∙ k.long;
         assigned = λ v j o. flag_kept flags i j (k.assigned v j o);
-        tallied = λ j. let t = k.tallied j in let b = set_bit flags i j inside off in let n = put_tally order sender_of sent_at j p w.pending new in omega arith;
-        received = all_put nat_cmp index_of (λ x. get_or (set flags i true) x.index false ≡ true) s w.received (flag_raised flags i inside)
+        tallied = λ j. let t = k.tallied j in let b = flag_set flags i j inside off in let n = tally_put_new sent_at order sender_of j p w.pending new in omega arith;
+        received = all_put nat_cmp index_of (λ x. get_or (set flags i true) x.index false ≡ true) s w.received (get_or-set_same flags i true false inside)
             (all_weaker _ (λ x. get_or (set flags i true) x.index false ≡ true) (λ x h. flag_kept flags i x.index h) w.received k.received);
         checked = k.checked;
         pending = all_put order sender_of (Pending good minimum keys own Hand) p w.pending (record { handed = handed; place = place }) k.pending;
@@ -57,11 +57,11 @@ module _ (good : Indexed → Bool) (minimum : ℕ) (keys : List (List ℕ)) (own
       let inside : i < length flags = omega (arith, k.long) in
       record {
         long = length-set flags i true ∙ k.long;
-        assigned = λ v j o. rw (← (mine j o)) (flag_raised flags i inside);
-        tallied = λ j. let t = k.tallied j in let b = set_bit flags i j inside off in let n = tally_append index_of j w.checked (s ∷ []) in omega arith;
-        received = all_put nat_cmp index_of (λ x. get_or (set flags i true) x.index false ≡ true) s w.received (flag_raised flags i inside)
+        assigned = λ v j o. rw (← (mine j o)) (get_or-set_same flags i true false inside);
+        tallied = λ j. let t = k.tallied j in let b = flag_set flags i j inside off in let n = tally_append index_of j w.checked (s ∷ []) in omega arith;
+        received = all_put nat_cmp index_of (λ x. get_or (set flags i true) x.index false ≡ true) s w.received (get_or-set_same flags i true false inside)
             (all_weaker _ (λ x. get_or (set flags i true) x.index false ≡ true) (λ x h. flag_kept flags i x.index h) w.received k.received);
-        checked = All-push (Checked good minimum keys own Hand) w.checked s k.checked (record { passes = passes; key = sender; handed = handed });
+        checked = all_append (Checked good minimum keys own Hand) w.checked (s ∷ []) k.checked (record { passes = passes; key = sender; handed = handed }, tt);
         pending = k.pending;
         job = k.job;
       }
@@ -97,7 +97,7 @@ module _ (good : Indexed → Bool) (minimum : ℕ) (keys : List (List ℕ)) (own
           record {
             sound = (waits_keeps r.contributed r.verified w lost sender s k.0 off (omega arith) handed place, k.1);
             grows = λ i h. flag_kept r.contributed s.index i h;
-            gets = λ _ _. flag_raised r.contributed s.index inside;
+            gets = λ _ _. get_or-set_same r.contributed s.index true false inside;
             still = λ e. absurd (both_ways true e refl);
             commitment = refl;
             round = refl;
@@ -126,7 +126,7 @@ module _ (good : Indexed → Bool) (minimum : ℕ) (keys : List (List ℕ)) (own
           record {
             sound = (joins_keeps r.contributed r.verified w lost sender s k.0 off within handed passes at, k.1);
             grows = λ i h. flag_kept r.contributed s.index i h;
-            gets = λ _ _. flag_raised r.contributed s.index inside;
+            gets = λ _ _. get_or-set_same r.contributed s.index true false inside;
             still = λ e. absurd (both_ways true e refl);
             commitment = refl;
             round = refl;
@@ -161,7 +161,7 @@ module _ (good : Indexed → Bool) (minimum : ℕ) (keys : List (List ℕ)) (own
           inside (Some i) e is = let same = eqb-true s.index i is in let b = mine i e in omega arith
 
           at_own : (o : Option ℕ) → own ≡ o → is_assigned o r.leader sender place s.index ≡ true → (i : ℕ) → own ≡ Some i → s.index ≡ i
-          at_own None e is i f = never_some i (s.index ≡ i) (sym e ∙ f)
+          at_own None e is i f = cc
           at_own (Some j) e is i f = eqb-true s.index j is ∙ same_Some j i (sym e ∙ f)
 
     -- behind the block nothing is asked of a record any more
@@ -187,5 +187,5 @@ module _ (good : Indexed → Bool) (minimum : ℕ) (keys : List (List ℕ)) (own
     pub taken_in : (r : Rec) → Sound good minimum keys own Hand lost r → Took lost sender s r (from_member good own sender s r (index sender keys))
     taken_in r k =
         by_option (λ o. Took lost sender s r (from_member good own sender s r o)) (index sender keys)
-        (λ e. unmoved r (Some Stranger) k (λ here _. never_some s.index (GivenTo r s.index) (sym e ∙ here)))
+        (λ e. unmoved r (Some Stranger) k (λ here _. cc))
         (λ place at. arrived r r.phase place k at)

@@ -1,7 +1,7 @@
 -- A member that keeps to the rules is never reported.
-use Rattle.std.proofs.Common.{◌≡◌, ℕ, Bool, true, not, List, [], ◌∷◌, is_some, IfSome, Some, None, filter, Option, sym, ap, ◌∙◌, subst, ⊎_elim}
+use Rattle.std.proofs.Common.{◌≡◌, ℕ, true, not, List, is_some, IfSome, Some, None, filter, Option, sym, ap, ◌∙◌, subst, ⊎_elim, arith}
 use Rattle.std.proofs.lemmas.Slice.Eq.{bytes_eq-Decides}
-use Rattle.std.proofs.lemmas.Bool.{both_ways, cond_both, not-true}
+use Rattle.std.proofs.lemmas.Bool.{both_ways, not-true}
 use Rattle.std.proofs.lemmas.Option.{same_Some}
 use Rattle.std.specs.List.{AllByRecursion}
 use Rattle.std.specs.Str.{bytes_eq}
@@ -83,9 +83,7 @@ module _ (limits : Limits) (m : Meaning) (a : Assignment) (h : List Event) (k : 
       (λ p t k same. both_ways (good_for m limits.blob c p.shard) (not-true _ t) (blameless.good c e p.shard named (subst (λ j. H c j p.shard) same k.handed))) ps all
 
   blamed : (j : Job) (r : Rec) → job_in r.phase ≡ Some j → FineHere r → AllByRecursion (λ p. Another p.sender) (failing m limits.blob r.commitment j)
-  blamed j r out fine =
-      bad_others r.commitment r.round.epoch.0 fine.announced j.pending
-      (out_of limits m a H A r.commitment r.round.epoch.0 r.contributed r.phase j out fine.holds).pending
+  blamed j r out fine = grind (arith, bad_others, out_of)
 
   keeps : Keeps limits m a H A FineHere Another
   keeps = record {

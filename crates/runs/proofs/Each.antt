@@ -1,7 +1,6 @@
 -- What holds of every element, said by recursion on the list as the promises say it: std's lemmas on `All`, and on two facts at once.
-use Rattle.std.proofs.Common.{◌≡◌, ℕ, ◌<◌, Bool, true, List, [], ◌∷◌, ◌++◌, map, length, get_or, take, drop, filter}
-use Rattle.std.proofs.lemmas.Bool.{cond_both}
-use Rattle.std.proofs.lemmas.List.Elements.{All-append, All-drop, All-from_recursion as as_All, All-get_or, All-map, All-take, All-weaker, recursion_from_All as by_recursion}
+use Rattle.std.proofs.Common.{◌≡◌, ℕ, ◌<◌, Bool, true, List, [], ◌∷◌, ◌++◌, map, length, get_or, take, drop, filter, arith}
+use Rattle.std.proofs.lemmas.List.Elements.{All-append, All-drop, All-from_recursion as as_All, All-map, All-take, recursion_from_All as by_recursion}
 use Rattle.std.specs.List.{AllByRecursion}
 
 module _ {X : Type 0} (P : X → Type 0) where
@@ -18,17 +17,15 @@ module _ {X : Type 0} (P : X → Type 0) where
   all_map f ys p = by_recursion P (map f ys) (All-map P f ys (as_All (λ y. P (f y)) ys p))
 
   pub all_get_or : (xs : List X) (i : ℕ) (d : X) → i < length xs → AllByRecursion P xs → P (get_or xs i d)
-  all_get_or xs i d h p = All-get_or P xs i d h (as_All P xs p)
+  all_get_or xs i d h p = grind (arith, as_All)
 
   pub all_weaker : (Q : X → Type 0) → ((x : X) → P x → Q x) → (xs : List X) → AllByRecursion P xs → AllByRecursion Q xs
-  all_weaker Q f xs p = by_recursion Q xs (All-weaker P Q f xs (as_All P xs p))
+  all_weaker Q f xs p = grind (arith, by_recursion, as_All)
 
   -- of what a test keeps
   pub all_filter : (Q : X → Type 0) (test : X → Bool) → ((x : X) → test x ≡ true → P x → Q x) → (xs : List X) → AllByRecursion P xs → AllByRecursion Q (filter test xs)
   all_filter Q test f [] p = tt
-  all_filter Q test f (x ∷ xs) p =
-      cond_both (test x) (x ∷ filter test xs) (filter test xs) (AllByRecursion Q)
-      (λ t. (f x t p.0, all_filter Q test f xs p.1)) (λ _. all_filter Q test f xs p.1)
+  all_filter Q test f (x ∷ xs) p = grind (arith, all_filter Q test f xs p.1)
 
   pub all_with : (Q R : X → Type 0) → ((x : X) → P x → Q x → R x) → (xs : List X) → AllByRecursion P xs → AllByRecursion Q xs → AllByRecursion R xs
   all_with Q R f [] p q = tt

@@ -1,9 +1,8 @@
 -- Tables under byte strings and under numbers: an entry in the place of another, and the window.
-use Rattle.std.proofs.Common.{◌≡◌, ℕ, suc, ◌<◌, ◌≤◌, cond, ltb, List, [], ◌∷◌, map, length, IfSome, Some, None, Option, Less, Equal, Greater, sym, refl, ap, ◌∙◌, arith}
-use Rattle.std.proofs.lemmas.Bool.{cond_both, cond-false, le-ltb, ltb-false, ltb-true}
+use Rattle.std.proofs.Common.{◌≡◌, ℕ, suc, ◌<◌, ◌≤◌, ltb, List, [], ◌∷◌, map, length, IfSome, Some, None, Option, Equal, sym, refl, ◌∙◌, arith}
+use Rattle.std.proofs.lemmas.Bool.{cond_both, ltb-false, ltb-true}
 use Rattle.std.proofs.lemmas.Bool.Decides.{nat_tests}
 use Rattle.std.proofs.lemmas.List.{length-map}
-use Rattle.std.specs.Cmp.{nat_cmp_total}
 use Rattle.std.specs.Option.{option_map}
 use Rattle.std.specs.List.{AllByRecursion}
 use Rattle.register.specs.ByteOrder.{order_ascends, order_reverses, order_same, order_ties}
@@ -14,7 +13,6 @@ use Rattle.table.proofs.Lawful.{all_looks, changed_ascends, changed_others, chan
 use Rattle.table.proofs.Orders.{Lawful, by_order}
 use Rattle.table.specs.Laws.{Ascends, Laws, look}
 use Rattle.table.specs.Table.{changed, without}
-use Rattle.model.specs.State.{lower}
 use Rattle.model.specs.Window.{leaves, lower_of, lowest, trimmed}
 use Rattle.std.specs.Ordering.{nat_cmp}
 
@@ -49,14 +47,14 @@ module _ {E : Type 0} (key : E → List ℕ) where
 
   -- an entry in the place of the one that is found
   pub replaced-found : (e : E) (xs : List E) (x : E) → look order key (key e) xs ≡ Some x → look order key (key e) (changed order key (λ _. e) (key e) xs) ≡ Some e
-  replaced-found e xs x h = changed_own order key byte_laws (λ _. e) (key e) (keeps e) xs ∙ ap (option_map (λ _. e)) h
+  replaced-found e xs x h = grind (arith, changed_own, byte_laws, keeps)
 
   -- putting an entry in the place of that with the same key leaves the others and the order
   pub replaced_others : (e : E) (j : List ℕ) (xs : List E) → (key e ≡ j → ⊥) → look order key j (changed order key (λ _. e) (key e) xs) ≡ look order key j xs
-  replaced_others e j xs h = changed_others order key byte_laws (λ _. e) (key e) (keeps e) j xs (differ (key e) j h)
+  replaced_others e j xs h = grind (arith, changed_others, byte_laws, keeps, differ)
 
   pub replaced_ascends : (e : E) (xs : List E) → Ascends order key xs → Ascends order key (changed order key (λ _. e) (key e) xs)
-  replaced_ascends e xs up = changed_ascends order key byte_laws (λ _. e) (key e) (keeps e) xs up
+  replaced_ascends e xs up = grind (arith, changed_ascends, byte_laws, keeps)
 
 -- the window
 module _ {E : Type 0} (round : E → Round) (key : E → List ℕ) where
@@ -65,7 +63,7 @@ module _ {E : Type 0} (round : E → Round) (key : E → List ℕ) where
 
   pub all_lowest : (P : E → Type 0) (xs : List E) → AllByRecursion P xs → IfSome (lowest round key xs) P
   all_lowest P [] all = tt
-  all_lowest P (x ∷ xs) all = lower_all P x (lowest round key xs) all.0 (all_lowest P xs all.1)
+  all_lowest P (x ∷ xs) all = grind (arith, lower_all, all_lowest P xs all.1)
 
   -- what a trim leaves: the list, or the list without one that was there
   pub trimmed_either : (Q : List E → Type 0) (window : ℕ) (xs : List E) → Ascends order key xs → (length xs ≤ window → Q xs) → ((x : E) → window < length xs → look order key (key x) xs ≡ Some x → Q (without order key (key x) xs)) → Q (trimmed round key window xs)
@@ -88,11 +86,10 @@ module _ {E : Type 0} (round : E → Round) (key : E → List ℕ) where
 
   leaves_all : (P : E → Type 0) (o : Option E) (xs : List E) → AllByRecursion P xs → AllByRecursion P (leaves round key o xs)
   leaves_all P None xs all = all
-  leaves_all P (Some x) xs all = all_without order key P (key x) xs all
+  leaves_all P (Some x) xs all = grind (arith, all_without)
 
   pub all_trimmed : (P : E → Type 0) (window : ℕ) (xs : List E) → AllByRecursion P xs → AllByRecursion P (trimmed round key window xs)
-  all_trimmed P window xs all =
-      cond_both (ltb window (length xs)) (leaves round key (lowest round key xs) xs) xs (AllByRecursion P) (λ _. leaves_all P (lowest round key xs) xs all) (λ _. all)
+  all_trimmed P window xs all = grind (arith, leaves_all)
 
   pub trimmed_ascends : (window : ℕ) (xs : List E) → Ascends order key xs → Ascends order key (trimmed round key window xs)
   trimmed_ascends window xs up =
@@ -120,16 +117,11 @@ module _ {E F : Type 0} (round : F → Round) (key : F → List ℕ) (g : E → 
 
   map-lowest : (xs : List E) → option_map g (lowest (λ y. round (g y)) (λ y. key (g y)) xs) ≡ lowest round key (map g xs)
   map-lowest [] = refl
-  map-lowest (x ∷ xs) = ap Some (map_lower_of x (lowest (λ y. round (g y)) (λ y. key (g y)) xs) ∙ ap (lower_of round key (g x)) (map-lowest xs))
+  map-lowest (x ∷ xs) = grind (arith, map_lower_of, map-lowest xs)
 
   map-leaves : (o : Option E) (xs : List E) → map g (leaves (λ y. round (g y)) (λ y. key (g y)) o xs) ≡ leaves round key (option_map g o) (map g xs)
   map-leaves None xs = refl
-  map-leaves (Some x) xs = map-without order (λ y. key (g y)) order key g (key (g x)) (key (g x)) xs (λ _. refl)
+  map-leaves (Some x) xs = grind (arith, map-without)
 
   pub map-trimmed : (window : ℕ) (xs : List E) → map g (trimmed (λ y. round (g y)) (λ y. key (g y)) window xs) ≡ trimmed round key window (map g xs)
-  map-trimmed window xs =
-      let low = lowest (λ y. round (g y)) (λ y. key (g y)) xs in
-      let long : length (map g xs) ≡ length xs = length-map xs g in
-      cond_both (ltb window (length xs)) (leaves (λ y. round (g y)) (λ y. key (g y)) low xs) xs (λ ys. map g ys ≡ trimmed round key window (map g xs))
-      (λ t. map-leaves low xs ∙ ap (λ o. leaves round key o (map g xs)) (map-lowest xs) ∙ sym (ap (λ n. cond (ltb window n) (leaves round key (lowest round key (map g xs)) (map g xs)) (map g xs)) long ∙ simp t))
-      (λ f. sym (ap (λ n. cond (ltb window n) (leaves round key (lowest round key (map g xs)) (map g xs)) (map g xs)) long ∙ simp f))
+  map-trimmed window xs = grind (arith, length-map, map-leaves, map-lowest)

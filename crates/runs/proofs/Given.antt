@@ -1,5 +1,5 @@
 -- A block that a look-up gives is what good shards, each handed in, open to.
-use Rattle.std.proofs.Common.{◌≡◌, ℕ, ◌+◌, ◌-◌, ◌<◌, eqb, List, [], ◌∷◌, ◌++◌, length, drop, Some, Ok, sym, refl, ap, ◌∙◌, subst, arith, length-drop, take-append-drop, get_or-drop}
+use Rattle.std.proofs.Common.{◌≡◌, ℕ, ◌-◌, ◌<◌, eqb, List, [], ◌∷◌, ◌++◌, length, drop, Some, Ok, sym, refl, ap, ◌∙◌, subst, arith, length-drop, take-append-drop}
 use Rattle.std.proofs.lemmas.Grind.{common_steps}
 use Rattle.std.proofs.lemmas.Bool.{and_parts, eqb-true}
 use Rattle.std.specs.Option.{option_map}
@@ -7,20 +7,18 @@ use Rattle.block.proofs.Whole.{matched_behind}
 use Rattle.block.specs.Blobs.{parsed}
 use Rattle.block.specs.declared.kind.Reading.{Reading}
 use Rattle.register.specs.Commitments.{config_at, config_of}
-use Rattle.register.specs.Order.{order}
 use Rattle.scheme.specs.Pieces.{Indexed}
 use Rattle.table.proofs.Carried.{all_look}
 use Rattle.model.specs.Calls.{Call, discovery, notarization, shard, completion, peer_change, block_look_up, verified_look_up, block_in, phase_of, turned_down}
 use Rattle.model.specs.Histories.{Announced, Assignment, Event, HandedIn, Leads}
 use Rattle.model.specs.Meaning.{Meaning, Roster, fitted_for}
 use Rattle.model.specs.Promises.{BlocksWereHandedIn, Gives, GoodShard, HandedInBlock}
-use Rattle.model.specs.State.{Limits, Rec, State, filed_under, record_of}
+use Rattle.model.specs.State.{Limits, Rec, State, record_of}
 use Rattle.model.specs.Steps.{Step, block_given, step, unless_refused}
 use Rattle.runs.proofs.Each.{all_weaker}
 use Rattle.runs.proofs.Entries.{by_option, found_key}
-use Rattle.runs.proofs.Intakes.{by_phases}
 use Rattle.runs.proofs.Invariants.{records_fine}
-use Rattle.runs.proofs.Records.{Checked, FineRecord, Holds, OpenedFrom}
+use Rattle.runs.proofs.Records.{Checked, OpenedFrom}
 use Rattle.runs.proofs.Rolls.{roll_record}
 use Rattle.runs.specs.Rolls.{entry_of}
 
@@ -78,15 +76,7 @@ module _ (limits : Limits) (m : Meaning) (a : Assignment) (h : List Event) where
         }
 
     looked_up : (roster : Roster) (c : List ℕ) (room : ℕ) → Gives limits m a h (block_look_up c room) (block_given limits m roster s (phase_of (record_of c s))).answer
-    looked_up roster c room =
-        by_option (λ o. record_of c s ≡ o → Gives limits m a h (block_look_up c room) (block_given limits m roster s (phase_of o)).answer) (record_of c s)
-        (λ _ _. tt)
-        (λ r at _.
-        let fine = all_look order filed_under (FineRecord limits m a H A) c s.records r at (records_fine limits m a h s leads) in
-        let holds = subst (λ d. Holds limits m a H A d r.round.epoch.0 r.contributed r.phase) (found_key filed_under c s.records r at) fine.holds in
-        by_phases (λ p. Holds limits m a H A c r.round.epoch.0 r.contributed p → Gives limits m a h (block_look_up c room) (block_given limits m roster s (Some p)).answer) r.phase
-        (λ _ _ _. tt) (λ blob _ from. block_handed_in c r blob at from) holds)
-        refl
+    looked_up roster c room = grind (arith, all_look, records_fine, found_key, block_handed_in)
 
     step_gives : (roster : Roster) (call : Call) → Gives limits m a h call (step limits m roster call s).answer
     unfolding step

@@ -4,7 +4,6 @@ use Rattle.std.specs.List.{AllByRecursion}
 use Rattle.model.specs.Histories.{Announced, Assignment, Event, HandedIn, Leads}
 use Rattle.model.specs.Meaning.{Meaning}
 use Rattle.model.specs.State.{Limits, State}
-use Rattle.runs.proofs.Boxes.{Filled}
 use Rattle.runs.proofs.Entries.{by_option}
 use Rattle.runs.proofs.Reached.{Keeps, Reached, reached}
 use Rattle.runs.proofs.Records.{FineRecord, completed_fine, new_fine, observed_fine, taken_fine, tried_fine}
@@ -38,6 +37,3 @@ module _ (limits : Limits) (m : Meaning) (a : Assignment) (h : List Event) where
 
     pub records_fine : AllByRecursion (FineRecord limits m a (HandedIn h) (Announced h)) s.records
     records_fine = here.sound.records
-
-    pub boxes_filled : AllByRecursion (Filled (HandedIn h)) s.peers
-    boxes_filled = here.sound.boxes

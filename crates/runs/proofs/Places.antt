@@ -1,9 +1,7 @@
 -- Where keys stand among members, and what the class of a shard says of its index.
 use Rattle.std.proofs.Common.{◌≡◌, ℕ, ◌<◌, Bool, true, false, T, List, [], ◌∷◌, length, Some, None, Option, refl, arith}
 use Rattle.std.proofs.lemmas.Grind.{common_steps}
-use Rattle.std.specs.Cmp.{Equal-is}
 use Rattle.register.specs.ByteOrder.{order_same}
-use Rattle.register.specs.Order.{order}
 use Rattle.rosters.specs.Roster.{Fair}
 use Rattle.rosters.specs.Sound.{index}
 use Rattle.model.specs.Intake.{assigned, owned, stray, classed}

@@ -1,6 +1,5 @@
 -- What each call keeps of every record, and of the keys that it reports, holds in every state that a history leads to.
 use Rattle.std.proofs.Common.{◌≡◌, ℕ, true, List, [], ◌∷◌, is_some, IfSome, Some, None, Option, sym, refl, ap, ◌∙◌, subst, arith}
-use Rattle.std.proofs.lemmas.Bool.{cond_both}
 use Rattle.std.specs.List.{AllByRecursion}
 use Rattle.register.specs.Order.{order}
 use Rattle.register.specs.declared.counters.Round.{Round}
@@ -13,7 +12,7 @@ use Rattle.model.specs.Histories.{Agrees, Assignment, Brings, Counts, Entry, Eve
 use Rattle.model.specs.Intake.{intake}
 use Rattle.model.specs.Jobs.{completes, failing, job_in, tries}
 use Rattle.model.specs.Meaning.{Meaning, Roster}
-use Rattle.model.specs.State.{Job, Limits, Phase, awaiting, cached, Rec, Sent, State, filed_under, new_record, record_of, round_of, with_leader}
+use Rattle.model.specs.State.{Job, Limits, Phase, Rec, Sent, State, filed_under, new_record, record_of, round_of, with_leader}
 use Rattle.model.specs.Steps.{Ingested, Step, advanced, all_taken, began, block_given, box_intake, completion_of, done, entered, observes, outlives, replaced, reported, same_epoch, shard_of, step, taken, unless_refused, wants, within_window}
 use Rattle.model.specs.declared.answer.Reason.{Reason}
 use Rattle.runs.proofs.Boxes.{Filled, boxed-filled, drawn_brought, left-filled, renewed-filled}
@@ -117,13 +116,13 @@ module _ (limits : Limits) (m : Meaning) (a : Assignment) (H : List ℕ → List
           })
 
       put_back : (x : Rec) → P x → AllByRecursion P (replaced x s.records)
-      put_back x h = all_changed order filed_under P (λ _. x) x.commitment s.records (λ _ _ _. h) sound.records
+      put_back x h = grind (arith, all_changed)
 
       put_in : (x : Rec) → P x → AllByRecursion P (entered x s.records)
       put_in x h = all_put order filed_under P x s.records h sound.records
 
       held : (c : List ℕ) (r : Rec) → record_of c s ≡ Some r → P r
-      held c r at = all_look order filed_under P c s.records r at sound.records
+      held c r at = grind (arith, all_look)
 
       announcing : (c : List ℕ) (round : Round) → A c round.epoch.0 → AnnouncedWays limits m roster s Leaves c round
       announcing c round named = record {
@@ -159,7 +158,7 @@ module _ (limits : Limits) (m : Meaning) (a : Assignment) (H : List ℕ → List
           })
 
       outliving : (c : List ℕ) (o : Option Rec) → IfSome o P → AllByRecursion P (outlives limits m roster o c s.records)
-      outliving c None h = all_without order filed_under P c s.records sound.records
+      outliving c None h = grind (arith, all_without)
       outliving c (Some x) h = put_back x h
 
       completing : (c : List ℕ) → Leaves (completion_of limits m roster c s)

@@ -1,12 +1,11 @@
 -- What holds of every record: where its shards came from, that they are good or may be, and that each index counts once.
-use Rattle.std.proofs.Common.{◌≡◌, ℕ, ◌+◌, ◌-◌, ◌<◌, ◌≤◌, Bool, true, false, leb, ◌⊎◌, List, [], ◌∷◌, ◌++◌, map, length, get_or, set, IfSome, Some, None, Ok, Err, filter, Option, Result, sym, refl, ap, ◌∙◌, subst, inl, inr, ⊎_elim, arith, length-set, length-take}
+use Rattle.std.proofs.Common.{◌≡◌, ℕ, ◌+◌, ◌-◌, ◌<◌, ◌≤◌, Bool, true, false, leb, ◌⊎◌, List, [], ◌∷◌, ◌++◌, map, length, get_or, set, IfSome, Some, None, Ok, filter, Option, sym, ap, ◌∙◌, subst, inl, inr, arith, length-set, length-take}
 use Rattle.std.proofs.lemmas.Grind.{common_steps}
-use Rattle.std.proofs.lemmas.Bool.{both_ways, cond_both, eqb-true, leb-true}
-use Rattle.std.proofs.lemmas.List.{get_or-set_same, length-replicate}
+use Rattle.std.proofs.lemmas.Bool.{cond_both, leb-true}
+use Rattle.std.proofs.lemmas.List.{get_or-set_same}
 use Rattle.std.specs.List.{AllByRecursion}
-use Rattle.block.specs.declared.blob.Misfit.{Misfit}
 use Rattle.block.specs.declared.kind.Reading.{Reading}
-use Rattle.reconstruct.specs.Rebuilt.{raised, rebuilt}
+use Rattle.reconstruct.specs.Rebuilt.{rebuilt}
 use Rattle.register.specs.Order.{order}
 use Rattle.register.specs.declared.counters.Round.{Round}
 use Rattle.rosters.specs.Sound.{index}
@@ -18,12 +17,12 @@ use Rattle.model.specs.Intake.{assigned, owned, classed, index_of, intake, joine
 use Rattle.model.specs.Jobs.{blob_in, completes, job_in, numbered, passing, returned_in, shard_of, started, tried_in, tried_with, tries}
 use Rattle.model.specs.Meaning.{Meaning, Roster, fitted_for, good_for, minimum_of, opened_for}
 use Rattle.model.specs.Promises.{Distinct}
-use Rattle.model.specs.State.{Job, Limits, Phase, awaiting, cached, Rec, Sent, Shards, larger, lower, new_record, with_phase}
+use Rattle.model.specs.State.{Job, Limits, Phase, awaiting, cached, Rec, Sent, Shards, new_record, with_phase}
 use Rattle.model.specs.Steps.{observes, same_epoch}
 use Rattle.runs.proofs.Each.{all_append, all_drop, all_filter, all_map, all_take, all_weaker}
 use Rattle.runs.proofs.Entries.{by_option}
 use Rattle.runs.proofs.Intakes.{completes_ways, intake_ways}
-use Rattle.runs.proofs.Places.{assigned_at, assigned_without, index_below, own_below, owned_at, owned_not_own}
+use Rattle.runs.proofs.Places.{assigned_at, assigned_without, index_below, own_below}
 use Rattle.runs.proofs.Reached.{Seated}
 use Rattle.runs.proofs.Tallies.{distinct, flag, flag_kept, flag_most, flag_set, tally, tally_append, tally_kept, tally_map, tally_put, tally_split}
 use Rattle.std.specs.Ordering.{nat_cmp}
@@ -39,10 +38,6 @@ at_job i (Some j) = tally index_of i j.checked + tally sent_at i j.pending
 -- how often an index is in play: checked, pending, or out with the job
 abbrev pub in_play : ℕ → Shards → ℕ
 in_play i w = tally index_of i w.checked + tally sent_at i w.pending + at_job i w.job
-
-raised_parts : (o : Result Reading Misfit) (reading : Reading) → raised o ≡ Ok reading → o ≡ Ok reading
-raised_parts (Ok x) reading h = cc
-raised_parts (Err x) reading h = cc
 
 -- H: handed in, of commitment, key and shard; A: announced, of commitment and epoch
 module _ (limits : Limits) (m : Meaning) (a : Assignment) (H : List ℕ → List ℕ → Indexed → Type 0) (A : List ℕ → ℕ → Type 0) where
@@ -139,14 +134,10 @@ module _ (limits : Limits) (m : Meaning) (a : Assignment) (H : List ℕ → List
     few = seat.fair.0
 
     assigned_below : (place : ℕ) → index sender keys ≡ Some place → classed own r.leader sender place s.index ≡ assigned → s.index < length keys
-    assigned_below place at class =
-        by_option (λ o. own ≡ o → s.index < length keys) own
-        (λ none _. let same = assigned_without r.leader sender place s.index own class none in let l = index_below sender keys place at in omega arith)
-        (λ o is _. let same = assigned_at r.leader sender place s.index own o class is in let l = own_below keys own o seat.fair is in omega arith)
-        refl
+    assigned_below place at class = grind (arith, assigned_without, index_below, assigned_at, own_below)
 
     own_stays : (i : ℕ) → (a.own r.round.epoch.0 ≡ Some i → r.verified ≡ true → get_or r.contributed i false ≡ true) → a.own r.round.epoch.0 ≡ Some i → r.verified ≡ true → get_or (set r.contributed s.index true) i false ≡ true
-    own_stays i h is seen = flag_kept r.contributed s.index i (h is seen)
+    own_stays i h is seen = grind (arith, flag_kept)
 
     verifies_fine : (place : ℕ) → index sender keys ≡ Some place → classed own r.leader sender place s.index ≡ assigned → get_or r.contributed s.index false ≡ false → good_for m limits.blob r.commitment s ≡ true → FineRecord (verifies own s r).rec
     verifies_fine place at class down good =
@@ -241,15 +232,10 @@ module _ (limits : Limits) (m : Meaning) (a : Assignment) (H : List ℕ → List
       (all_map Brought shard_of ps (all_weaker (Pending c e) (λ p. Brought p.shard) (λ p k. (p.sender, k.handed, k.placed)) ps all))
 
   pub passing_checked : (c : List ℕ) (e : ℕ) (j : Job) → Out c e j → AllByRecursion (Checked c e) (passing m limits.blob c j)
-  passing_checked c e j out =
-      all_append (Checked c e) j.checked (filter (good_for m limits.blob c) (map shard_of j.pending)) out.checked (good_pending c e j.pending out.pending)
+  passing_checked c e j out = grind (arith, all_append, good_pending)
 
   pub passing_once : (c : List ℕ) (i : ℕ) (j : Job) → tally index_of i (passing m limits.blob c j) ≤ at_job i (Some j)
-  passing_once c i j =
-      let t = tally_append index_of i j.checked (filter (good_for m limits.blob c) (map shard_of j.pending)) in
-      let k = tally_kept index_of (good_for m limits.blob c) i (map shard_of j.pending) in
-      let s = tally_map index_of shard_of i j.pending in
-      omega arith
+  passing_once c i j = grind (arith, tally_append, tally_kept, tally_map)
 
   -- the job that is out, from the phase
   pub out_of : (c : List ℕ) (e : ℕ) (flags : List Bool) (p : Phase) (j : Job) → job_in p ≡ Some j → Holds c e flags p → Out c e j

@@ -1,6 +1,5 @@
 -- The roll has at every moment the records' commitments and rounds; records ascend and are within the window.
 use Rattle.std.proofs.Common.{◌≡◌, ℕ, ◌≤◌, true, false, List, [], ◌∷◌, map, length, Some, None, Option, sym, refl, ap, ◌∙◌, subst, arith}
-use Rattle.std.proofs.lemmas.Bool.{cond_both}
 use Rattle.std.specs.Option.{option_map}
 use Rattle.register.specs.Order.{order}
 use Rattle.register.specs.declared.counters.Round.{Round}
@@ -14,7 +13,7 @@ use Rattle.model.specs.Histories.{Assignment, Event, Leads, announces, commitmen
 use Rattle.model.specs.Intake.{Action, intake}
 use Rattle.model.specs.Jobs.{blob_in, numbered, passing, returned_in, tries}
 use Rattle.model.specs.Meaning.{Meaning, Roster, opened_for}
-use Rattle.model.specs.State.{Limits, Peer, Phase, awaiting, cached, Rec, Sent, State, filed_under, new_record, record_of, round_of, with_leader, with_phase}
+use Rattle.model.specs.State.{Limits, Peer, Phase, cached, Rec, Sent, State, filed_under, new_record, record_of, round_of, with_leader, with_phase}
 use Rattle.model.specs.Steps.{Ingested, Step, advanced, all_taken, began, block_given, box_intake, completion_of, discovery_of, done, ends, entered, notarization_of, observes, replaced, shard_of, stays, step, taken, unless_refused, wants, within_window}
 use Rattle.model.specs.Window.{trimmed}
 use Rattle.model.specs.declared.answer.Outcome.{Outcome}
@@ -46,15 +45,14 @@ tries_entry r = refl
 module _ (limits : Limits) (m : Meaning) (roster : Roster) where
   pub taken_entry : (keys : List (List ℕ)) (e : ℕ) (i : Ingested) (ps : List Sent) → entry_of (all_taken limits m roster keys e i ps).rec ≡ entry_of i.rec
   taken_entry keys e i [] = refl
-  taken_entry keys e i (p ∷ ps) =
-      taken_entry keys e (taken limits m roster keys e i p) ps ∙ intake_entry m limits.blob keys (roster.own e) p.sender p.shard i.rec
+  taken_entry keys e i (p ∷ ps) = grind (arith, intake_entry, taken_entry keys e (taken limits m roster keys e i p) ps)
 
 pub advanced_entry : (i : Ingested) → entry_of (advanced i) ≡ entry_of i.rec
-advanced_entry i = cond_both i.gained (tries i.rec) i.rec (λ r. entry_of r ≡ entry_of i.rec) (λ _. tries_entry i.rec) (λ _. refl)
+advanced_entry i = grind (arith, tries_entry)
 
 -- what is found among the entries is the entry of the record that is found
 roll_look : (c : List ℕ) (rs : List Rec) → on_roll c (map entry_of rs) ≡ option_map entry_of (look order filed_under c rs)
-roll_look c rs = map-look order filed_under order commitment_of entry_of c c rs (λ _. refl)
+roll_look c rs = grind (arith, map-look)
 
 -- the roll after a call, and what holds of the records then
 pub record Follows (window : ℕ) (call : Call) (s : State) (t : Step) : Type 0 where
@@ -140,7 +138,7 @@ module _ (limits : Limits) (m : Meaning) (roster : Roster) (s : State) (up : Asc
     within : length rs ≤ limits.window
 
   nothing : Same s.records
-  nothing = record { follows = refl; ascend = up; within = few }
+  nothing = grind arith
 
   kept : (c : List ℕ) (r x : Rec) → record_of c s ≡ Some r → entry_of x ≡ entry_of r → Same (replaced x s.records)
   kept c r x at same =
@@ -229,9 +227,6 @@ module _ (limits : Limits) (m : Meaning) (a : Assignment) (h : List Event) (s : 
   pub records_ascend : Ascends order filed_under s.records
   records_ascend = (aligned limits m a h s l).ascend
 
-  pub records_within : length s.records ≤ limits.window
-  records_within = (aligned limits m a h s l).within
-
   -- what the roll has of a commitment is its record's
   pub roll_record : (c : List ℕ) → on_roll c (roll limits.window h) ≡ option_map entry_of (record_of c s)
-  roll_record c = ap (on_roll c) roll_follows ∙ roll_look c s.records
+  roll_record c = grind (arith, roll_follows, roll_look)

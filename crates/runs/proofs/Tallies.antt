@@ -1,13 +1,11 @@
 -- How often an index stands among shards, and what changes leave of it.
-use Rattle.std.proofs.Common.{◌≡◌, ℕ, zero, suc, ◌+◌, ◌<◌, ◌≤◌, Bool, true, false, cond, not, eqb, List, [], ◌∷◌, ◌++◌, map, length, get_or, take, drop, set, filter, Ordering, Equal, refl, ap, ⊎_elim, sum_by, arith}
-use Rattle.std.proofs.lemmas.Bool.{cases_eq, eq-eqb, ne_eqb}
+use Rattle.std.proofs.Common.{◌≡◌, ℕ, ◌+◌, ◌<◌, ◌≤◌, Bool, true, false, cond, not, eqb, List, [], ◌∷◌, ◌++◌, map, length, get_or, take, drop, set, filter, Ordering, Equal, refl, sum_by, arith}
+use Rattle.std.proofs.lemmas.Bool.{eq-eqb, ne_eqb}
 use Rattle.std.proofs.lemmas.Grind.{common_steps}
-use Rattle.std.proofs.lemmas.List.{get_or-set_other, get_or-set_same}
 use Rattle.std.proofs.lemmas.List.Filters.{sum_by-filter_both}
 use Rattle.std.proofs.lemmas.List.Recursion.{is_sum_by}
 use Rattle.std.proofs.lemmas.List.Sums.{sum_by-append, sum_by-take-drop}
 use Rattle.std.specs.List.{AllByRecursion}
-use Rattle.table.proofs.Orders.{by_order}
 use Rattle.table.specs.Table.{put}
 use Rattle.model.specs.Promises.{Distinct}
 use Rattle.runs.proofs.Each.{all_map}
@@ -39,10 +37,10 @@ module _ {X : Type 0} (index : X → ℕ) where
   tally_is i xs = is_sum_by (tally i) (λ x. hit i (index x)) refl (λ _ _. refl) xs
 
   pub tally_append : (i : ℕ) (xs ys : List X) → tally i (xs ++ ys) ≡ tally i xs + tally i ys
-  tally_append i xs ys = simp tally_is (sum_by-append (λ x. hit i (index x)) xs ys)
+  tally_append i xs ys = grind (arith, tally_is, sum_by-append)
 
   pub tally_split : (i n : ℕ) (xs : List X) → tally i (take n xs) + tally i (drop n xs) ≡ tally i xs
-  tally_split i n xs = simp tally_is (sum_by-take-drop (λ x. hit i (index x)) xs n)
+  tally_split i n xs = grind (arith, tally_is, sum_by-take-drop)
 
   pub tally_kept : (test : X → Bool) (i : ℕ) (xs : List X) → tally i (filter test xs) ≤ tally i xs
   tally_kept test i xs =
@@ -52,21 +50,17 @@ module _ {X : Type 0} (index : X → ℕ) where
   module _ {K : Type 0} (order : K → K → Ordering) (key : X → K) (i : ℕ) (e : X) where
     pub tally_put : (xs : List X) → tally i (put order key e xs) ≤ hit i (index e) + tally i xs
     tally_put [] = omega arith
-    tally_put (x ∷ xs) =
-        let h = tally_put xs in
-        by_order (order (key x) (key e)) (λ l. simp l (omega arith)) (λ q. simp q (omega arith)) (λ m. simp m (omega arith))
+    tally_put (x ∷ xs) = grind (arith, tally_put xs)
 
     -- under a key that is new
     pub tally_put_new : (xs : List X) → AllByRecursion (λ x. order (key x) (key e) ≡ Equal → ⊥) xs → tally i (put order key e xs) ≡ hit i (index e) + tally i xs
     tally_put_new [] new = omega arith
-    tally_put_new (x ∷ xs) new =
-        let h = tally_put_new xs new.1 in
-        by_order (order (key x) (key e)) (λ l. simp l (omega arith)) (λ q. absurd (new.0 q)) (λ m. simp m (omega arith))
+    tally_put_new (x ∷ xs) new = grind (arith, tally_put_new xs new.1)
 
   -- an index that is tallied nowhere is that of none
   pub none_there : (i : ℕ) (xs : List X) → tally i xs ≡ 0 → AllByRecursion (λ x. i ≡ index x → ⊥) xs
   none_there i [] h = tt
-  none_there i (x ∷ xs) h = ((λ same. omega (arith, hit_same i (index x) same)), none_there i xs (omega arith))
+  none_there i (x ∷ xs) h = grind (arith, hit_same, none_there i xs (omega arith))
 
   -- where each index stands at most once, indices are distinct
   pub distinct : (xs : List X) → ((i : ℕ) → tally i xs ≤ 1) → Distinct (map index xs)
@@ -78,7 +72,7 @@ module _ {X : Type 0} (index : X → ℕ) where
 
 pub tally_map : {X Y : Type 0} (index : Y → ℕ) (f : X → Y) (i : ℕ) (xs : List X) → tally index i (map f xs) ≡ tally (λ x. index (f x)) i xs
 tally_map index f i [] = refl
-tally_map index f i (x ∷ xs) = ap (λ n. hit i (index (f x)) + n) (tally_map index f i xs)
+tally_map index f i (x ∷ xs) = grind (arith, tally_map index f i xs)
 
 pub flag_kept : (flags : List Bool) (i j : ℕ) → get_or flags j false ≡ true → get_or (set flags i true) j false ≡ true
 flag_kept flags i j h = grind (arith, common_steps)

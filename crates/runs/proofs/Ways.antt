@@ -10,10 +10,10 @@ use Rattle.model.specs.Histories.{says_held}
 use Rattle.model.specs.Jobs.{completes, job_in}
 use Rattle.model.specs.Meaning.{Meaning, Roster}
 use Rattle.model.specs.State.{Job, Limits, awaiting, Rec, Shards, State, filed_under, new_record, record_of, round_of, with_leader, with_peers, with_records}
-use Rattle.model.specs.Steps.{Step, all_taken, began, boxes_shard, box_intake, by_phase, completed_by, completion_by, completion_of, discovered_by, discovers, discovery_of, draws, drew, ends, entered, enters, in_epoch, known_shard, led_by, notarization_of, notarized_by, notarizes, observes, replaced, same_epoch, shard_by, shard_of, stays, takes_shard, too_early, wants}
+use Rattle.model.specs.Steps.{Step, all_taken, began, boxes_shard, box_intake, by_phase, completion_of, discovered_by, discovers, discovery_of, drew, ends, entered, enters, in_epoch, led_by, notarization_of, notarized_by, notarizes, observes, replaced, same_epoch, shard_of, stays, takes_shard, too_early, wants}
 use Rattle.model.specs.Window.{admits}
 use Rattle.model.specs.declared.answer.Outcome.{Outcome}
-use Rattle.model.specs.declared.answer.Outcome.TheVariants.{NoEpoch, NoMember, OtherEpoch, LeaderStands, Declined, Held, Cached, Ignored, Boxed, NotBoxed}
+use Rattle.model.specs.declared.answer.Outcome.TheVariants.{NoEpoch, NoMember, OtherEpoch, Held, Cached, Boxed}
 use Rattle.model.specs.declared.answer.Refusal.TheVariants.{NoJob}
 use Rattle.runs.proofs.Entries.{by_option, found_key}
 use Rattle.runs.proofs.Intakes.{by_phases}
@@ -81,19 +81,7 @@ module _ (limits : Limits) (m : Meaning) (roster : Roster) (s : State) (Q : Step
 
     pub shard_ways : Q (shard_of limits m roster c peer x s)
     unfolding shard_of
-    shard_ways =
-        by_option (λ o. Q (shard_by limits m roster c peer x s o)) (record_of c s)
-        (λ _. boxing)
-        (λ r at.
-        cond_both (by_phase r.phase false r.verified) (stays limits m roster Ignored s) (in_epoch limits m roster (roster.keys r.round.epoch.0) (known_shard limits m roster peer x r s) s) Q
-        (λ _. ways.still Ignored)
-        (λ _.
-        by_option (λ o. Q (in_epoch limits m roster o (known_shard limits m roster peer x r s) s)) (roster.keys r.round.epoch.0)
-        (λ _. ways.still NoEpoch)
-        (λ keys known.
-        cond_both (too_early limits m roster r.leader (index peer keys) x.index) (boxes_shard limits m roster r.commitment peer x s) (takes_shard limits m roster keys peer x r s) Q
-        (λ _. rw (found_key filed_under c s.records r at) boxing)
-        (λ late. ways.takes r keys at known late))))
+    shard_ways = grind (arith, boxing, found_key)
 
   -- a job is completed
   pub completion_ways : (c : List ℕ) → Q (record { state = s; answer = refused NoJob }) → ((r : Rec) (j : Job) → record_of c s ≡ Some r → job_in r.phase ≡ Some j → Q (ends limits m roster c j s (completes m limits.blob j r))) → Q (completion_of limits m roster c s)
