@@ -34,6 +34,7 @@ once_each i (x ∷ xs) d =
 
 -- distinct numbers, as std says it
 apart : (xs : List ℕ) → Distinct xs → IsDistinct eqb xs
+unfolding IsDistinct
 apart [] d = tt
 apart (x ∷ xs) d = (all_weaker (λ y. x ≡ y → ⊥) (λ y. eqb x y ≡ false) (λ y n. ne_eqb x y n) xs d.0, apart xs d.1)
 

@@ -4,11 +4,9 @@ ghost use Rattle.enough.specs.Example.{BlamelessStands, ExampleStands};
 // Enough was handed in.
 pub fn example_stands()
     ensures { ExampleStands }
-{
-}
+{}
 
 // A member keeps to the rules.
 pub fn blameless_stands()
     ensures { BlamelessStands }
-{
-}
+{}

@@ -3,5 +3,4 @@ ghost use Rattle.enough.specs.First.{EnoughAlways};
 
 pub fn enough_bring_the_block()
     ensures { EnoughAlways }
-{
-}
+{}
