@@ -1,6 +1,5 @@
 -- Discovery and notarization carry the record of a commitment on, or let it in.
-use Rattle.std.proofs.Common.{◌≡◌, ℕ, true, false, List, [], ◌∷◌, length, is_some, Some, None, Option, sym, refl, ap, ◌∙◌, arith}
-use Rattle.std.proofs.lemmas.Bool.{both_ways, cond_both, eqb-true}
+use Rattle.std.proofs.Common.{◌≡◌, ℕ, true, List, [], ◌∷◌, length, is_some, Some, None, Option, sym, refl, ap, ◌∙◌, arith}
 use Rattle.register.specs.Order.{order}
 use Rattle.register.specs.declared.counters.Round.{Round}
 use Rattle.rosters.specs.Sound.{ascending}
@@ -10,7 +9,7 @@ use Rattle.model.specs.Boxes.{all_drawn, all_left}
 use Rattle.model.specs.Calls.{Answer, answered, Call, is_commitment}
 use Rattle.model.specs.Histories.{Agrees, Assignment, Event}
 use Rattle.model.specs.Meaning.{Meaning, Roster}
-use Rattle.model.specs.State.{Limits, Rec, State, filed_under, larger, lower, new_record, record_of, round_of, with_leader}
+use Rattle.model.specs.State.{Limits, Rec, State, filed_under, larger, new_record, record_of, with_leader}
 use Rattle.model.specs.Steps.{Step, advanced, all_taken, began, box_intake, entered, observes, replaced, same_epoch, stays, wants, within_window}
 use Rattle.model.specs.declared.answer.Outcome.{Outcome}
 use Rattle.model.specs.declared.answer.Outcome.TheVariants.{Held}
@@ -24,12 +23,10 @@ use Rattle.enough.proofs.Moves.{Fine, For, OwnBoxes, Silent, box_grown, elsewher
 
 -- the larger of two rounds of one epoch is of that epoch
 larger_epoch : (x y : Round) → same_epoch x y ≡ true → (larger x y).epoch.0 ≡ x.epoch.0
-larger_epoch x y same =
-    cond_both (lower x y) y x (λ z. z.epoch.0 ≡ x.epoch.0) (λ _. sym (eqb-true x.epoch.0 y.epoch.0 same)) (λ _. refl)
+larger_epoch x y same = grind arith
 
 some_of : {X : Type 0} (o : Option X) → is_some o ≡ true → (x : X) × (o ≡ Some x)
-some_of None h = absurd (both_ways false refl h)
-some_of (Some x) h = (x, refl)
+some_of o h = grind arith
 
 module _ (limits : Limits) (m : Meaning) (a : Assignment) (c : List ℕ) (ep : ℕ) (Hand : List ℕ → Indexed → Type 0) (roster : Roster) (call : Call) (s : State) (es : List Event)
     (agrees : Agrees a roster) (boxes : OwnBoxes c Hand s.peers) (up : Ascends order filed_under s.records) (silent : (answer : Answer) → Silent limits m a c ep Hand roster call s es answer) where
@@ -118,8 +115,4 @@ module _ (limits : Limits) (m : Meaning) (a : Assignment) (c : List ℕ) (ep : �
 
   -- what is beyond the window leaves
   pub trimmed_fine : (t : Step) → FineHere t → FineHere (within_window limits m roster t)
-  trimmed_fine t fine = record {
-    boxes = fine.boxes;
-    ascend = trimmed_ascends round_of filed_under limits.window t.state.records fine.ascend;
-    moved = λ r at in_epoch_now. fine.moved r (trimmed-look round_of filed_under limits.window c t.state.records r fine.ascend at) in_epoch_now;
-  }
+  trimmed_fine t fine = grind (arith, trimmed_ascends, trimmed-look)

@@ -1,19 +1,19 @@
 -- A shard call carries the record of a commitment on; a member's good shard at its own index has then contributed.
-use Rattle.std.proofs.Common.{◌≡◌, ℕ, Bool, true, false, cond, List, [], ◌∷◌, is_some, Some, None, Option, sym, refl, ap, ◌∙◌, subst, arith}
-use Rattle.std.proofs.lemmas.Bool.{both_ways, cond_both, eq-eqb}
+use Rattle.std.proofs.Common.{◌≡◌, ℕ, Bool, true, false, cond, List, [], ◌∷◌, is_some, Some, Option, sym, refl, ap, ◌∙◌, subst, arith}
+use Rattle.std.proofs.lemmas.Bool.{both_ways, cond_both}
 use Rattle.std.proofs.lemmas.Option.{same_Some}
 use Rattle.register.specs.Order.{order}
 use Rattle.rosters.specs.Sound.{index}
 use Rattle.scheme.specs.Pieces.{Indexed}
 use Rattle.table.specs.Laws.{Ascends}
-use Rattle.model.specs.Boxes.{boxes_with, is_primary}
+use Rattle.model.specs.Boxes.{boxes_with}
 use Rattle.model.specs.Calls.{Answer, answered, Call, shard, Rooms}
 use Rattle.model.specs.Histories.{Agrees, Assignment, Event}
 use Rattle.model.specs.Jobs.{tried_in, tries}
 use Rattle.model.specs.Meaning.{Meaning, Roster}
 use Rattle.model.specs.State.{Limits, Phase, awaiting, cached, Rec, State, filed_under, record_of, with_peers}
 use Rattle.model.specs.Steps.{Ingested, Step, advanced, began, boxes_shard, by_phase, in_epoch, known_shard, shard_by, shard_of, stays, taken, takes_shard, too_early}
-use Rattle.model.specs.declared.answer.Outcome.TheVariants.{NoEpoch, Ignored, Boxed, NotBoxed, Gain, NoGain}
+use Rattle.model.specs.declared.answer.Outcome.TheVariants.{NoEpoch, Ignored, Boxed, Gain, NoGain}
 use Rattle.runs.proofs.Boxes.{boxed-filled}
 use Rattle.runs.proofs.Entries.{by_option, found_key}
 use Rattle.runs.proofs.Rolls.{advanced_entry, intake_entry}
@@ -21,7 +21,7 @@ use Rattle.runs.proofs.Ways.{shard_ways}
 use Rattle.enough.proofs.Draws.{Grown, advanced_grown, good_here, known, row_all, row-began, took}
 use Rattle.enough.proofs.Held.{Given, GivenTo}
 use Rattle.enough.proofs.Live.{next}
-use Rattle.enough.proofs.Moves.{Fine, For, Moved, OwnBoxes, Silent, elsewhere, event, placed, placed_other, stayed}
+use Rattle.enough.proofs.Moves.{Fine, For, OwnBoxes, Silent, elsewhere, event, placed, placed_other}
 
 tried_gives : (minimum : ℕ) (flags : List Bool) (i : ℕ) (ph : Phase) → Given flags i ph → Given flags i (tried_in minimum ph)
 tried_gives minimum flags i (awaiting w) h = h
@@ -29,21 +29,17 @@ tried_gives minimum flags i (cached blob) h = h
 
 advanced-gives : (i : Ingested) (n : ℕ) → GivenTo i.rec n → GivenTo (advanced i) n
 unfolding tries
-advanced-gives i n h =
-    cond_both i.gained (tries i.rec) i.rec (λ q. GivenTo q n) (λ _. tried_gives _ i.rec.contributed n i.rec.phase h) (λ _. h)
+advanced-gives i n h = grind arith
 
 -- behind the block everything is given
 ignored_gives : (ph : Phase) (verified : Bool) (flags : List Bool) (n : ℕ) → by_phase ph false verified ≡ true → Given flags n ph
-ignored_gives (awaiting w) verified flags n h = absurd (both_ways false refl h)
-ignored_gives (cached blob) verified flags n h = tt
+ignored_gives ph verified flags n h = grind arith
 
 module _ (limits : Limits) (m : Meaning) (a : Assignment) (c : List ℕ) (ep : ℕ) (Hand : List ℕ → Indexed → Type 0) (roster : Roster) (s : State) (es : List Event)
     (agrees : Agrees a roster) (boxes : OwnBoxes c Hand s.peers) (up : Ascends order filed_under s.records) (peer : List ℕ) (x : Indexed) (rooms : Rooms) where
   -- at its own index a member's shard is not too early
   timely : (l : Option (List ℕ)) (o : Option ℕ) → o ≡ Some x.index → too_early limits m roster l o x.index ≡ false
-  timely (Some l) o at = refl
-  timely None None at = refl
-  timely None (Some place) at = rw (eq-eqb x.index place (sym (same_Some place x.index at)))
+  timely l o at = grind arith
 
   module _ (handed : Hand peer x) where
     abbrev bring : Call
@@ -56,25 +52,11 @@ module _ (limits : Limits) (m : Meaning) (a : Assignment) (c : List ℕ) (ep : �
     unchanged : (t : Step) → OwnBoxes c Hand t.state.peers → Ascends order filed_under t.state.records → record_of c t.state ≡ record_of c s →
         ((r : Rec) → record_of c s ≡ Some r → r.round.epoch.0 ≡ ep → is_some (roster.keys ep) ≡ true → index peer (a.keys ep) ≡ Some x.index → GivenTo r x.index) →
         FineHere t
-    unchanged t own rise same gives = record {
-      boxes = own;
-      ascend = rise;
-      moved = λ r at in_epoch_now.
-          subst (λ o. Moved limits m a c ep Hand roster bring s es o t.answer r) (sym at ∙ same) (
-            in_epoch_now,
-            λ knows live. stayed limits m a c ep Hand roster bring s es t.answer r live (λ is. absurd is)
-                (λ k y counts brings at_place good.
-                subst (λ y. GivenTo r y.index) brings.2
-                (gives r (sym same ∙ at) in_epoch_now knows (ap (λ k. index k (a.keys ep)) brings.1 ∙ at_place ∙ ap (λ y. Some y.index) (sym brings.2)))),
-          );
-    }
+    unchanged t own rise same gives = grind arith
 
     boxing : ((r : Rec) → record_of c s ≡ Some r → r.round.epoch.0 ≡ ep → is_some (roster.keys ep) ≡ true → index peer (a.keys ep) ≡ Some x.index → GivenTo r x.index) → FineHere (boxes_shard limits m roster c peer x s)
     unfolding boxes_shard
-    boxing gives =
-        cond_both (is_primary peer s.peers) (stays limits m roster Boxed (with_peers (boxes_with limits.boxes peer (record { commitment = c; shard = x }) s.peers) s)) (stays limits m roster NotBoxed s) FineHere
-        (λ _. unchanged (stays limits m roster Boxed (with_peers (boxes_with limits.boxes peer (record { commitment = c; shard = x }) s.peers) s)) (boxed-filled (For c Hand) limits.boxes peer (record { commitment = c; shard = x }) s.peers (λ _. handed) boxes) up refl gives)
-        (λ _. unchanged (stays limits m roster NotBoxed s) boxes up refl gives)
+    boxing gives = grind (arith, unchanged, boxed-filled)
 
     taking : (r : Rec) (ks : List (List ℕ)) → record_of c s ≡ Some r → roster.keys r.round.epoch.0 ≡ Some ks → FineHere (takes_shard limits m roster ks peer x r s)
     taking r ks at knows =

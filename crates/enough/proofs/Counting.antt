@@ -1,5 +1,5 @@
 -- Counting: how often a number stands in a list, and how many distinct numbers there can be.
-use Rattle.std.proofs.Common.{◌≡◌, ℕ, ◌<◌, ◌≤◌, Bool, true, false, ◌||◌, eqb, List, [], ◌∷◌, map, length, subst, map-id, ⊎_elim, arith}
+use Rattle.std.proofs.Common.{◌≡◌, ℕ, ◌<◌, ◌≤◌, true, eqb, List, [], ◌∷◌, length, subst, map-id, ⊎_elim, arith}
 use Rattle.std.proofs.lemmas.Bool.{cases_eq, eqb-true, ne_eqb}
 use Rattle.std.proofs.lemmas.List.Elements.{All-contains, All-from_recursion}
 use Rattle.std.proofs.lemmas.Map.Made.{length-le_from_is_member}
@@ -9,7 +9,7 @@ use Rattle.std.specs.Cmp.{nat_eq_equiv}
 use Rattle.std.specs.List.{AllByRecursion, IsDistinct, list_any}
 use Rattle.model.specs.Promises.{Distinct}
 use Rattle.runs.proofs.Each.{all_weaker}
-use Rattle.runs.proofs.Tallies.{distinct, flag_most, hit, hit_other, hit_same, tally}
+use Rattle.runs.proofs.Tallies.{distinct, flag_most, hit_other, tally}
 
 abbrev pub itself : ℕ → ℕ
 itself n = n
@@ -36,7 +36,7 @@ once_each i (x ∷ xs) d =
 apart : (xs : List ℕ) → Distinct xs → IsDistinct eqb xs
 unfolding IsDistinct
 apart [] d = tt
-apart (x ∷ xs) d = (all_weaker (λ y. x ≡ y → ⊥) (λ y. eqb x y ≡ false) (λ y n. ne_eqb x y n) xs d.0, apart xs d.1)
+apart (x ∷ xs) d = grind (arith, all_weaker, ne_eqb, apart xs d.1)
 
 found : (P : ℕ → Type 0) (xs : List ℕ) (q : ℕ) → AllByRecursion P xs → list_any (eqb q) xs ≡ true → P q
 found P xs q all here = All-contains P xs q (All-from_recursion P xs all) (Contains-from_any eqb-true q xs here)

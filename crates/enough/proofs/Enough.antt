@@ -1,23 +1,23 @@
 -- Enough good shards bring the block: at least as many are in play as the minimum, and no more can be lost than are left.
-use Rattle.std.proofs.Common.{◌≡◌, ℕ, ◌+◌, ◌-◌, ◌<◌, ◌≤◌, Bool, true, false, leb, ◌⊎◌, List, [], ◌++◌, map, length, get_or, is_some, Some, None, Ok, Err, filter, Option, sym, refl, ap, ◌∙◌, subst, inl, inr, ⊎_elim, arith, length-append}
+use Rattle.std.proofs.Common.{◌≡◌, ℕ, ◌+◌, ◌-◌, ◌<◌, ◌≤◌, Bool, true, false, ◌⊎◌, List, [], ◌++◌, map, length, get_or, Some, None, Ok, Err, filter, Option, sym, refl, ap, ◌∙◌, subst, inl, inr, ⊎_elim, arith, length-append}
 use Rattle.std.proofs.lemmas.Option.{same_Some}
 use Rattle.std.proofs.lemmas.List.{length-map}
-use Rattle.std.proofs.lemmas.Bool.{both_ways, cases_lt, cond_both}
+use Rattle.std.proofs.lemmas.Bool.{both_ways, cases_lt}
 use Rattle.std.specs.Option.{option_map}
 use Rattle.std.specs.List.{AllByRecursion}
 use Rattle.reconstruct.specs.Rebuilt.{raised, rebuilt}
 use Rattle.reconstruct.specs.declared.error.Error.{Error}
 use Rattle.scheme.specs.Pieces.{Indexed}
-use Rattle.model.specs.Calls.{Answer, refused, completion, block_look_up, block_in, gives, is_commitment, job_out, phase_of, turned_down, unless}
+use Rattle.model.specs.Calls.{Answer, refused, completion, block_look_up, is_commitment, phase_of}
 use Rattle.model.specs.Histories.{Agrees, Assignment, Entry, Event, HandedIn, Leads, since}
 use Rattle.model.specs.Intake.{index_of}
 use Rattle.model.specs.Jobs.{completes, job_in, passing, shard_of}
 use Rattle.model.specs.Meaning.{Meaning, Roster, good_for, minimum_of, rebuilt_for}
 use Rattle.model.specs.Promises.{CompletesWell, Completing, EndedAbove, Enough, EnoughBringTheBlock, GoodShard, GoesOn, HandsIn, Sufficient, asked}
 use Rattle.model.specs.State.{Job, Limits, Phase, awaiting, cached, Rec, Shards, State, filed_under, record_of}
-use Rattle.model.specs.Steps.{block_given, completed_by, completion_by, completion_of, step, unless_refused}
+use Rattle.model.specs.Steps.{block_given, completion_of, step, unless_refused}
 use Rattle.model.specs.declared.answer.Refusal.{Refusal}
-use Rattle.model.specs.declared.answer.Refusal.TheVariants.{Malformed, NoBlock, Buffer}
+use Rattle.model.specs.declared.answer.Refusal.TheVariants.{NoBlock}
 use Rattle.runs.proofs.Each.{all_append, all_weaker, all_with}
 use Rattle.runs.proofs.Entries.{by_option, found_key}
 use Rattle.runs.proofs.Intakes.{completes_ways}
@@ -27,7 +27,7 @@ use Rattle.runs.proofs.Places.{index_below, index_same}
 use Rattle.runs.proofs.Records.{at_job, sent_at}
 use Rattle.runs.proofs.Tallies.{distinct, flag, flag_most, tally, tally_append, tally_map}
 use Rattle.enough.proofs.Counting.{counted, covered, crowded, itself, once_each}
-use Rattle.enough.proofs.Ends.{good_checked, lost_once, sorted_out}
+use Rattle.enough.proofs.Ends.{good_checked, sorted_out}
 use Rattle.enough.proofs.Held.{Checked, Given, GivenTo, InPhase, Jobbed, Lost, Settled, Waiting, few_with}
 use Rattle.enough.proofs.Live.{Live, ended_above_more}
 use Rattle.enough.proofs.Members.{own_place}
@@ -72,8 +72,7 @@ module _ (limits : Limits) (m : Meaning) (a : Assignment) (h : List Event) (c : 
         both_ways (good (record { index = i; bytes = lost.bytes })) lost.bad (subst (λ b. good (record { index = i; bytes = b }) ≡ true) (sym same) hands.good)
 
     lost_apart : (ph : Phase) → InPhase good (minimum_of c) keys own Hand r.contributed r.verified r.completions live.lost ph → (i : ℕ) → tally itself i live.lost ≤ 1
-    lost_apart (awaiting w) k = lost_once good (minimum_of c) keys own Hand r.contributed r.verified w live.lost k.0
-    lost_apart (cached blob) k = k
+    lost_apart ph k = grind arith
 
     -- the places and the lost indices are apart
     not_lost : (i : ℕ) → Hands i → tally itself i live.lost ≡ 0
@@ -84,9 +83,7 @@ module _ (limits : Limits) (m : Meaning) (a : Assignment) (h : List Event) (c : 
         (cases_lt 0 (tally itself i live.lost))
 
     not_both : (i : ℕ) → 1 ≤ tally itself i places → tally itself i live.lost ≡ 0
-    not_both i some =
-        let p = counted itself i Hands places enough.each some in
-        not_lost i (subst Hands p.2 p.1)
+    not_both i some = grind (arith, counted, not_lost)
 
     few_lost : length places + length live.lost ≤ length keys
     few_lost =
@@ -106,9 +103,7 @@ module _ (limits : Limits) (m : Meaning) (a : Assignment) (h : List Event) (c : 
             ⊎_elim (λ some. let z = not_both i some in omega arith) (λ none. omega arith) (cases_lt 0 (tally itself i places))
 
     pub past : AllByRecursion (λ e. Completing c e.call → EndedAbove (length keys - length places) e.answer) (since limits.window c h)
-    past =
-        all_weaker (λ x. Completing c x.call → EndedAbove (length live.lost) x.answer) (λ x. Completing c x.call → EndedAbove (length keys - length places) x.answer)
-        (λ x e is. let few = few_lost in ended_above_more (length live.lost) (length keys - length places) x.answer (omega arith) (e is)) (since limits.window c h) live.ended
+    past = grind (arith, all_weaker, few_lost, ended_above_more)
 
     -- each place has contributed
     pub given_places : AllByRecursion (λ p. GivenTo r p) places
@@ -195,26 +190,13 @@ module _ (limits : Limits) (m : Meaning) (roster : Roster) (s : State) (c : List
   -- a block that is there is not refused for not being there
   there : (room : ℕ) (blob : List ℕ) → is_commitment c ≡ true → phase_of (record_of c s) ≡ Some (cached blob) → (step limits m roster (block_look_up c room) s).answer ≡ refused NoBlock → ⊥
   unfolding step
-  there room blob proper at =
-      let is = look_is room (turned_down limits s (block_look_up c room)) in
-      let here : look_answer (unless true Malformed (gives room (Some (cached blob)))) (Some (cached blob)) ≡ refused NoBlock → ⊥ =
-      cond_both (leb (length (block_in blob)) room) None (Some Buffer) (λ t. look_answer t (Some (cached blob)) ≡ refused NoBlock → ⊥)
-      (λ _ wrong. cc) (λ _ wrong. cc) in
-      subst (λ x. x ≡ refused NoBlock → ⊥) (sym is)
-      (subst (λ o. look_answer (unless (is_commitment c) Malformed (gives room o)) o ≡ refused NoBlock → ⊥) (sym at)
-      (subst (λ b. look_answer (unless b Malformed (gives room (Some (cached blob)))) (Some (cached blob)) ≡ refused NoBlock → ⊥) (sym proper) here))
+  there room blob proper at = grind arith
 
   -- a job that is out is completed
   completing : (r : Rec) (j : Job) → is_commitment c ≡ true → record_of c s ≡ Some r → job_in r.phase ≡ Some j → GoesOn (completes m limits.blob j r).outcome →
       CompletesWell (step limits m roster (completion c (record { reports = 512; broadcast = limits.shard })) s).answer
   unfolding step completion_of
-  completing r j proper at out goes =
-      let call = completion c (record { reports = 512; broadcast = limits.shard }) in
-      let open_job : job_out (record_of c s) ≡ true = ap job_out at ∙ ap is_some out in
-      let none : turned_down limits s call ≡ None = simp (proper, open_job) in
-      subst (λ t. CompletesWell (unless_refused limits m roster t s call).answer) (sym none)
-      (subst (λ o. CompletesWell (completion_by limits m roster c s o).answer) (sym at)
-      (subst (λ o. CompletesWell (completed_by limits m roster c s r o).answer) (sym out) goes))
+  completing r j proper at out goes = grind arith
 
 -- the record that the roll speaks of
 recorded : (o : Option Rec) (entry : Entry) → option_map entry_of o ≡ Some entry → (r : Rec) × (o ≡ Some r) × (entry_of r ≡ entry)

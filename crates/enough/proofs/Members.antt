@@ -1,5 +1,5 @@
 -- Members by their keys and places.
-use Rattle.std.proofs.Common.{◌≡◌, ℕ, zero, suc, ◌<◌, Bool, true, false, T, List, [], ◌∷◌, length, get_or, Some, Ordering, Less, Equal, Greater, refl, le_of_suc-le-suc, arith}
+use Rattle.std.proofs.Common.{◌≡◌, ℕ, zero, suc, ◌<◌, true, List, [], ◌∷◌, length, get_or, Some, Less, le_of_suc-le-suc, arith}
 use Rattle.std.proofs.lemmas.Bool.{and_parts}
 use Rattle.std.specs.Ordering.{is_lt}
 use Rattle.std.specs.List.{AllByRecursion}
@@ -17,8 +17,7 @@ all_rises k (l ∷ ks) up =
     (low, all_weaker (λ x. order l x ≡ Less) (λ x. order k x ≡ Less) (λ x h. byte_laws.ascends k l x low h) ks (all_rises l ks parts.1))
 
 rises_on : (k : List ℕ) (ks : List (List ℕ)) → rises k ks ≡ true → ascending ks ≡ true
-rises_on k [] up = refl
-rises_on k (l ∷ ks) up = (and_parts (is_lt (order k l)) (rises l ks) up).1
+rises_on k ks up = grind arith
 
 -- each key of a roster stands at its own place
 pub own_place : (ks : List (List ℕ)) (i : ℕ) → ascending ks ≡ true → i < length ks → index (get_or ks i []) ks ≡ Some i

@@ -1,5 +1,5 @@
 -- A call that leaves the record of a commitment alone, replaces it, or lets one in; and box intake for it.
-use Rattle.std.proofs.Common.{◌≡◌, ℕ, Bool, true, false, ◌⊎◌, List, [], ◌∷◌, length, is_some, Some, None, Option, sym, refl, ap, ◌∙◌, subst, inl, inr, ⊎_elim, arith}
+use Rattle.std.proofs.Common.{◌≡◌, ℕ, true, ◌⊎◌, List, [], ◌∷◌, is_some, Some, None, Option, sym, ap, ◌∙◌, subst, inl, inr, ⊎_elim, arith}
 use Rattle.std.proofs.lemmas.Slice.Eq.{bytes_eq-Decides}
 use Rattle.std.proofs.lemmas.Bool.{cases_Bool, iff_false}
 use Rattle.std.proofs.lemmas.Option.{same_Some}
@@ -21,7 +21,7 @@ use Rattle.runs.proofs.Each.{all_weaker}
 use Rattle.runs.proofs.Entries.{differ, entry_laws, replaced_ascends, replaced-found, replaced_others}
 use Rattle.enough.proofs.Draws.{Grown, SoundHere, advanced_grown, good_here, known, row_all, row-began}
 use Rattle.enough.proofs.Held.{GivenTo, Settled}
-use Rattle.enough.proofs.Live.{Live, next}
+use Rattle.enough.proofs.Live.{Live}
 
 pub cases_same : (x y : List ℕ) → (x ≡ y) ⊎ (x ≡ y → ⊥)
 cases_same x y =
@@ -59,8 +59,7 @@ module _ (limits : Limits) (m : Meaning) (a : Assignment) (c : List ℕ) (ep : �
       (Completing c call → (n : ℕ) → EndedAbove n answer) →
       ((k : List ℕ) (x : Indexed) → Counts answer → Brings c k x call → index k (a.keys ep) ≡ Some x.index → good_here limits m a c ep Hand x ≡ true → GivenTo old x.index) →
       Live limits m a c ep Hand (event answer ∷ es) old
-  stayed answer old live ends gets =
-      next limits m a c ep Hand es (event answer) old old live live.lost (record { sound = live.sound; settled = live.settled; grows = λ i h. h }) live.losses (omega arith) (λ is. ends is (length live.lost)) gets
+  stayed answer old live ends gets = grind arith
 
   pub elsewhere : (t : Step) → Silent t.answer → OwnBoxes c Hand t.state.peers → Ascends order filed_under t.state.records → record_of c t.state ≡ record_of c s → Fine t
   elsewhere t silent boxes up same = record {

@@ -1,16 +1,16 @@
 -- Every history that leads to a state: what is true of the record of a commitment and of the events since its admission.
-use Rattle.std.proofs.Common.{◌≡◌, ℕ, Bool, true, false, cond, ◌&&◌, List, [], ◌∷◌, is_some, Some, None, Option, sym, refl, subst, inl, inr, ⊎_elim}
+use Rattle.std.proofs.Common.{◌≡◌, ℕ, Bool, true, false, cond, ◌&&◌, List, [], ◌∷◌, is_some, Some, None, Option, sym, refl, subst, inl, inr, ⊎_elim, arith}
 use Rattle.std.proofs.lemmas.Bool.{and_parts}
 use Rattle.std.specs.Option.{option_map}
 use Rattle.std.specs.List.{AllByRecursion}
 use Rattle.register.specs.Order.{order}
 use Rattle.scheme.specs.Pieces.{Indexed}
 use Rattle.table.specs.Laws.{Ascends}
-use Rattle.model.specs.Calls.{Answer, refused, Call, discovery, notarization, shard, completion, peer_change, block_look_up, verified_look_up, is_commitment, is_key, is_verified, phase_of, told, turned_down, unless}
+use Rattle.model.specs.Calls.{Answer, Call, discovery, notarization, shard, completion, peer_change, block_look_up, verified_look_up, is_commitment, is_key, is_verified, phase_of, told, turned_down, unless}
 use Rattle.model.specs.Histories.{Agrees, Assignment, Brings, Counts, Event, HandedIn, Leads, since}
 use Rattle.model.specs.Meaning.{Meaning, Roster}
-use Rattle.model.specs.State.{Limits, Phase, awaiting, cached, Rec, State, filed_under, record_of}
-use Rattle.model.specs.Steps.{Step, block_given, done, completion_of, discovery_of, notarization_of, shard_of, step, unless_refused}
+use Rattle.model.specs.State.{Limits, Phase, Rec, State, filed_under, record_of}
+use Rattle.model.specs.Steps.{Step, block_given, done, completion_of, discovery_of, notarization_of, shard_of, step}
 use Rattle.model.specs.declared.answer.Refusal.{Refusal}
 use Rattle.runs.proofs.Boxes.{renewed-filled}
 use Rattle.runs.proofs.Entries.{by_option}
@@ -37,22 +37,7 @@ module _ (limits : Limits) (m : Meaning) (a : Assignment) (c : List ℕ) (ep : �
     counted d peer x = shard_ways limits m roster s (λ t. Counts t.answer) d peer x (record { still = λ _. tt; boxed = λ _. tt; takes = λ _ _ _ _ _. tt })
 
     looked : (d : List ℕ) (room : ℕ) (o : Option Phase) → FineOf (block_look_up d room) (block_given limits m roster s o)
-    looked d room o = elsewhere limits m a c ep Hand roster (block_look_up d room) s es (block_given limits m roster s o) (record { ends = λ is. absurd is; brings = λ k y counts brings. absurd brings }) (own o) (rise o) (same o)
-      where
-        own : (o : Option Phase) → OwnBoxes c Hand (block_given limits m roster s o).state.peers
-        own None = boxes
-        own (Some (awaiting w)) = boxes
-        own (Some (cached blob)) = boxes
-
-        rise : (o : Option Phase) → Ascends order filed_under (block_given limits m roster s o).state.records
-        rise None = up
-        rise (Some (awaiting w)) = up
-        rise (Some (cached blob)) = up
-
-        same : (o : Option Phase) → record_of c (block_given limits m roster s o).state ≡ record_of c s
-        same None = refl
-        same (Some (awaiting w)) = refl
-        same (Some (cached blob)) = refl
+    looked d room o = grind arith
 
     done_fine : (call : Call) → turned_down limits s call ≡ None → (Counts (done limits m roster s call).answer → (k : List ℕ) (x : Indexed) → Brings c k x call → Hand k x) → FineOf call (done limits m roster s call)
     done_fine (discovery d leader round rooms) none handed =
@@ -97,10 +82,7 @@ module _ (limits : Limits) (m : Meaning) (a : Assignment) (c : List ℕ) (ep : �
 
     step_fine : (call : Call) → (Counts (step limits m roster call s).answer → (k : List ℕ) (x : Indexed) → Brings c k x call → Hand k x) → FineOf call (step limits m roster call s)
     unfolding step
-    step_fine call =
-        by_option (λ o. (Counts (unless_refused limits m roster o s call).answer → (k : List ℕ) (x : Indexed) → Brings c k x call → Hand k x) → FineOf call (unless_refused limits m roster o s call)) (turned_down limits s call)
-        (λ none handed. done_fine call none handed)
-        (λ refusal _ _. elsewhere limits m a c ep Hand roster call s es (record { state = s; answer = refused refusal }) (record { ends = λ _ n. tt; brings = λ k y counts brings. absurd counts }) boxes up refl)
+    step_fine call = grind (arith, done_fine, elsewhere)
 
   -- what holds of a history and the state that it leads to
   pub record Standing (h : List Event) (s : State) : Type 0 where

@@ -3,7 +3,6 @@ use Rattle.std.proofs.Common.{◌≡◌, ℕ, ◌<◌, ◌≤◌, Bool, true, fa
 use Rattle.std.proofs.lemmas.Bool.{and_parts, both_ways, cond_both, eq-eqb, eqb-true}
 use Rattle.std.proofs.lemmas.List.{get_or-set_same}
 use Rattle.std.proofs.lemmas.Option.{same_Some}
-use Rattle.std.specs.Str.{bytes_eq}
 use Rattle.register.specs.ByteOrder.{order_same}
 use Rattle.register.specs.Order.{order}
 use Rattle.rosters.specs.Sound.{index}
@@ -13,7 +12,7 @@ use Rattle.table.proofs.Lawful.{found_exactly}
 use Rattle.model.specs.Intake.{Class, assigned, owned, stray, Taken, arrives, checks, classed, dropped, from_member, index_of, is_assigned, leads, led, received_at, rejected, sender_of, unless_contributed, unless_received, verifies, waits, with_pending, with_received}
 use Rattle.model.specs.State.{Phase, awaiting, cached, Rec, Sent, Shards, with_phase}
 use Rattle.model.specs.declared.answer.Reason.{Reason}
-use Rattle.model.specs.declared.answer.Reason.TheVariants.{Stranger, WrongIndex, Equivocation, BadAssigned}
+use Rattle.model.specs.declared.answer.Reason.TheVariants.{Stranger, WrongIndex, BadAssigned}
 use Rattle.runs.proofs.Each.{all_append, all_weaker, all_with}
 use Rattle.runs.proofs.Entries.{by_option, number_laws, number_same}
 use Rattle.runs.proofs.Places.{index_below}
@@ -80,14 +79,13 @@ module _ (good : Indexed → Bool) (minimum : ℕ) (keys : List (List ℕ)) (own
     unmoved : (r : Rec) (report : Option Reason) → Sound good minimum keys own Hand lost r →
         (index sender keys ≡ Some s.index → good s ≡ true → GivenTo r s.index) →
         Took lost sender s r (record { rec = r; report = report; action = None; gained = false })
-    unmoved r report k gets = record { sound = k; grows = λ i h. h; gets = gets; still = λ _. refl; commitment = refl; round = refl; leader = refl }
+    unmoved r report k gets = grind arith
 
     -- a stray shard is at nobody's index, a bad one is not good
     unmoved_led : (r : Rec) (l : Option (List ℕ)) → Sound good minimum keys own Hand lost r →
         (index sender keys ≡ Some s.index → good s ≡ true → GivenTo r s.index) →
         Took lost sender s r (led l (rejected WrongIndex r) (dropped r))
-    unmoved_led r None k gets = unmoved r None k gets
-    unmoved_led r (Some l) k gets = unmoved r (Some WrongIndex) k gets
+    unmoved_led r l k gets = grind arith
 
     module _ (r : Rec) (w : Shards) (k : InPhase good minimum keys own Hand r.contributed r.verified r.completions lost (awaiting w)) where
       waited : get_or r.contributed s.index false ≡ false → index sender keys ≡ Some s.index → Took lost sender s (with_phase (awaiting w) r) (waits sender s w (with_phase (awaiting w) r))
@@ -107,16 +105,7 @@ module _ (good : Indexed → Bool) (minimum : ℕ) (keys : List (List ℕ)) (own
       -- a received index has contributed
       unless_got : (next : Taken) → (get_or r.contributed s.index false ≡ false → Took lost sender s (with_phase (awaiting w) r) next) →
           Took lost sender s (with_phase (awaiting w) r) (unless_received (received_at s.index w) s (with_phase (awaiting w) r) (unless_contributed s (with_phase (awaiting w) r) next))
-      unless_got next go =
-          by_option (λ o. Took lost sender s (with_phase (awaiting w) r) (unless_received o s (with_phase (awaiting w) r) (unless_contributed s (with_phase (awaiting w) r) next))) (received_at s.index w)
-          (λ _. cond_both (get_or r.contributed s.index false) (dropped (with_phase (awaiting w) r)) next (Took lost sender s (with_phase (awaiting w) r))
-          (λ on. unmoved (with_phase (awaiting w) r) None k (λ _ _. on)) go)
-          (λ x found.
-          let same = found_exactly nat_cmp index_of number_laws number_same s.index w.received x found in
-          let on : get_or r.contributed s.index false ≡ true = rw (← same) (all_look nat_cmp index_of (λ x. get_or r.contributed x.index false ≡ true) s.index w.received x found k.0.received) in
-          cond_both (bytes_eq x.bytes s.bytes) (dropped (with_phase (awaiting w) r)) (rejected Equivocation (with_phase (awaiting w) r)) (Took lost sender s (with_phase (awaiting w) r))
-          (λ _. unmoved (with_phase (awaiting w) r) None k (λ _ _. on))
-          (λ _. unmoved (with_phase (awaiting w) r) (Some Equivocation) k (λ _ _. on)))
+      unless_got next go = grind (arith, unmoved, found_exactly, number_laws, number_same, all_look)
 
       -- an assigned shard stands at the own index, or at its sender's
       verified_in : get_or r.contributed s.index false ≡ false → good s ≡ true → s.index < 64 → ((i : ℕ) → own ≡ Some i → s.index ≡ i) →
@@ -167,22 +156,11 @@ module _ (good : Indexed → Bool) (minimum : ℕ) (keys : List (List ℕ)) (own
     -- behind the block nothing is asked of a record any more
     after : (r : Rec) (blob : List ℕ) → ((i : ℕ) → tally itself i lost ≤ 1) → (cl : Class) →
         Took lost sender s (with_phase (cached blob) r) (arrives good own sender s (with_phase (cached blob) r) (cached blob) cl)
-    after r blob k stray = unmoved_led (with_phase (cached blob) r) r.leader k (λ _ _. tt)
-    after r blob k owned = unmoved (with_phase (cached blob) r) None k (λ _ _. tt)
-    after r blob k assigned =
-        let q = with_phase (cached blob) r in
-        cond_both (get_or r.contributed s.index false) (dropped q) (cond r.verified (dropped q) (checks (good s) own s q)) (Took lost sender s q)
-        (λ _. unmoved q None k (λ _ _. tt))
-        (λ _. cond_both r.verified (dropped q) (checks (good s) own s q) (Took lost sender s q)
-        (λ _. unmoved q None k (λ _ _. tt))
-        (λ _. cond_both (good s) (verifies own s q) (rejected BadAssigned q) (Took lost sender s q)
-        (λ _. record { sound = k; grows = λ i h. tt; gets = λ _ _. tt; still = λ e. absurd (both_ways true e refl); commitment = refl; round = refl; leader = refl })
-        (λ _. unmoved q (Some BadAssigned) k (λ _ _. tt))))
+    after r blob k cl = grind arith
 
     arrived : (r : Rec) (ph : Phase) (place : ℕ) → InPhase good minimum keys own Hand r.contributed r.verified r.completions lost ph → index sender keys ≡ Some place →
         Took lost sender s (with_phase ph r) (arrives good own sender s (with_phase ph r) ph (classed own r.leader sender place s.index))
-    arrived r (awaiting w) place k at = before r w k place at
-    arrived r (cached blob) place k at = after r blob k (classed own r.leader sender place s.index)
+    arrived r ph place k at = grind (arith, before, after)
 
     pub taken_in : (r : Rec) → Sound good minimum keys own Hand lost r → Took lost sender s r (from_member good own sender s r (index sender keys))
     taken_in r k =
