@@ -20,9 +20,8 @@ use Rattle.runs.proofs.Each.{all_filter, all_weaker}
 use Rattle.runs.proofs.Entries.{number_laws, number_same}
 use Rattle.runs.proofs.Intakes.{intake_ways}
 use Rattle.runs.proofs.Places.{index_same, stray_not_at, stray_not_own}
-use Rattle.runs.proofs.Reached.{Keeps, Reports, Seated, reached}
-use Rattle.runs.proofs.Records.{FineRecord, Holds, Pending, Received, completed_fine, new_fine, observed_fine, out_of, taken_fine, tried_fine}
-use Rattle.runs.proofs.Told.{all_tell}
+use Rattle.runs.proofs.Reached.{Reports, Seated, kept}
+use Rattle.runs.proofs.Records.{fine_keeps, FineRecord, Holds, Pending, Received, completed_fine, new_fine, observed_fine, out_of, taken_fine, tried_fine}
 use Rattle.std.specs.Ordering.{nat_cmp}
 
 module _ (limits : Limits) (m : Meaning) (a : Assignment) (h : List Event) (k : List ℕ) (blameless : Blameless limits m a h k) where
@@ -80,21 +79,10 @@ module _ (limits : Limits) (m : Meaning) (a : Assignment) (h : List Event) (k : 
   bad_others : (c : List ℕ) (e : ℕ) → A c e → (ps : List Sent) → AllByRecursion (Pending limits m a H A c e) ps → AllByRecursion (λ p. Another p.sender) (filter (λ p. not (good_for m limits.blob c p.shard)) ps)
   bad_others c e named ps all =
       all_filter (Pending limits m a H A c e) (λ p. Another p.sender) (λ p. not (good_for m limits.blob c p.shard))
-      (λ p t k same. both_ways (good_for m limits.blob c p.shard) (not-true _ t) (blameless.good c e p.shard named (subst (λ j. H c j p.shard) same k.handed))) ps all
+      (λ p t k same. grind (arith, blameless.good c e p.shard named)) ps all
 
   blamed : (j : Job) (r : Rec) → job_in r.phase ≡ Some j → FineHere r → AllByRecursion (λ p. Another p.sender) (failing m limits.blob r.commitment j)
   blamed j r out fine = grind (arith, bad_others, out_of)
-
-  keeps : Keeps limits m a H A FineHere Another
-  keeps = record {
-    new = new_fine limits m a H A;
-    observed = observed_fine limits m a H A;
-    led = λ leader r fine. fine;
-    taken = λ keys own sender s r seat handed fine. (taken_fine limits m a H A keys own sender s r seat handed fine, spared keys own sender s r seat handed fine);
-    tried = tried_fine limits m a H A;
-    completed = completed_fine limits m a H A;
-    blamed = blamed;
-  }
 
   spares : (x : Answer) → Reports Another x → Spares k x
   spares (refused n) all = tt
@@ -106,7 +94,7 @@ module _ (limits : Limits) (m : Meaning) (a : Assignment) (h : List Event) (k : 
   all_spared : (s : State) → Leads limits m a h s → AllByRecursion (λ e. Spares k e.answer) h
   all_spared s l =
       all_weaker (λ (e : Event). Reports Another e.answer) (λ (e : Event). Spares k e.answer) (λ e. spares e.answer) h
-      (reached limits m a H A FineHere Another keeps h s l (all_tell limits m a H A FineHere Another h (λ _ _ _ z. z) (λ _ _ z. z))).reports
+      (kept limits m a FineHere Another h s (fine_keeps limits m a H A Another spared blamed) l).reports
 
 pub never_without_cause : (limits : Limits) (m : Meaning) (a : Assignment) (h : List Event) (s : State) → Leads limits m a h s → NobodyWithoutCause limits m a h
 never_without_cause limits m a h s l k blameless = all_spared limits m a h k blameless s l

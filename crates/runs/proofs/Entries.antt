@@ -99,7 +99,7 @@ module _ {E : Type 0} (round : E → Round) (key : E → List ℕ) where
   pub trimmed-length : (window : ℕ) (xs : List E) → Ascends order key xs → length xs ≤ suc window → length (trimmed round key window xs) ≤ window
   trimmed-length window xs up few =
       trimmed_either (λ ys. length ys ≤ window) window xs up (λ h. h)
-      (λ x more found. let n = length-without order key (key x) xs x found in omega arith)
+      (λ x more found. grind (arith, length-without))
 
   -- what is found in the end was found before
   pub trimmed-look : (window : ℕ) (c : List ℕ) (xs : List E) (e : E) → Ascends order key xs → look order key c (trimmed round key window xs) ≡ Some e → look order key c xs ≡ Some e

@@ -2,6 +2,7 @@
 use Rattle.std.proofs.Common.{◌≡◌, ℕ, ◌-◌, ◌<◌, eqb, List, [], ◌∷◌, ◌++◌, length, drop, Some, Ok, sym, refl, ap, ◌∙◌, subst, arith, length-drop, take-append-drop}
 use Rattle.std.proofs.lemmas.Grind.{common_steps}
 use Rattle.std.proofs.lemmas.Bool.{and_parts, eqb-true}
+use Rattle.std.specs.List.{AllByRecursion}
 use Rattle.std.specs.Option.{option_map}
 use Rattle.block.proofs.Whole.{matched_behind}
 use Rattle.block.specs.Blobs.{parsed}
@@ -17,8 +18,8 @@ use Rattle.model.specs.State.{Limits, Rec, State, record_of}
 use Rattle.model.specs.Steps.{Step, block_given, step, unless_refused}
 use Rattle.runs.proofs.Each.{all_weaker}
 use Rattle.runs.proofs.Entries.{by_option, found_key}
-use Rattle.runs.proofs.Invariants.{records_fine}
-use Rattle.runs.proofs.Records.{Checked, OpenedFrom}
+use Rattle.runs.proofs.Reached.{kept}
+use Rattle.runs.proofs.Records.{Checked, FineRecord, OpenedFrom, fine_keeps}
 use Rattle.runs.proofs.Rolls.{roll_record}
 use Rattle.runs.specs.Rolls.{entry_of}
 
@@ -34,16 +35,13 @@ record Ends (c blob : List ℕ) : Type 0 where
 fitted-ends : (limits : Limits) (m : Meaning) (c blob : List ℕ) (r : Reading) → fitted_for m limits.blob c blob ≡ Ok r → Ends c blob
 fitted-ends limits m c blob r e =
     let b = matched_behind m.digest c blob (m.reads blob) (parsed blob (m.reads blob)) r refl e in
-    let long = b.1.long in
     let at : length blob - 4 ≡ r.len = omega arith in
-    let same = and_parts (eqb b.0.minimum (config_of c).minimum) (eqb b.0.extra (config_of c).extra) b.2 in
-    let low = eqb-true b.0.minimum (config_of c).minimum same.0 in
-    let high = eqb-true b.0.extra (config_of c).extra same.1 in
-    let config : b.0 ≡ config_of c = λ i. record { minimum = low i; extra = high i } in
-    record {
-      four = length-drop (length blob - 4) blob ∙ omega arith;
-      spelled = config_behind blob (length blob - 4) ∙ ap (config_at blob) at ∙ b.1.is ∙ config;
-    }
+    let config : b.0 ≡ config_of c = grind arith in
+    record { four = length-drop (length blob - 4) blob ∙ omega arith; spelled = grind (arith, config_behind) }
+
+all_anything : {X : Type 0} (xs : List X) → AllByRecursion (λ _. Unit {0}) xs
+all_anything [] = tt
+all_anything (x ∷ xs) = (tt, all_anything xs)
 
 module _ (limits : Limits) (m : Meaning) (a : Assignment) (h : List Event) where
   abbrev H : List ℕ → List ℕ → Indexed → Type 0
@@ -52,7 +50,16 @@ module _ (limits : Limits) (m : Meaning) (a : Assignment) (h : List Event) where
   abbrev A : List ℕ → ℕ → Type 0
   A = Announced h
 
+  -- nothing is asked here of the keys that are reported
+  abbrev Anybody : List ℕ → Type 0
+  Anybody key = Unit {0}
+
   module _ (s : State) (leads : Leads limits m a h s) where
+    records_fine : AllByRecursion (FineRecord limits m a H A) s.records
+    records_fine =
+        (kept limits m a (FineRecord limits m a H A) Anybody h s
+        (fine_keeps limits m a H A Anybody (λ keys own sender s r _ _ _. grind arith) (λ j r _ _. all_anything _)) leads).sound.records
+
     block_handed_in : (c : List ℕ) (r : Rec) (blob : List ℕ) → record_of c s ≡ Some r → OpenedFrom limits m a H A c r.round.epoch.0 blob → HandedInBlock limits m a h c (block_in blob)
     block_handed_in c r blob at from =
         let behind = fitted-ends limits m c blob from.reading from.fits in
@@ -61,18 +68,14 @@ module _ (limits : Limits) (m : Meaning) (a : Assignment) (h : List Event) where
           entry = entry_of r;
           held = roll_record limits m a h s leads c ∙ ap (option_map entry_of) at;
           shards = from.shards;
-          sufficient = record {
-            many = from.many;
-            distinct = from.distinct;
-            each = all_weaker (Checked limits m a H A c r.round.epoch.0) (GoodShard limits m a h c) (λ x k. record { good = k.good; sender = k.sender; handed = k.handed }) from.shards from.each;
-          };
-          participants = all_weaker (Checked limits m a H A c r.round.epoch.0) (λ x. x.index < length (a.keys r.round.epoch.0)) (λ x k. k.below) from.shards from.each;
+          sufficient = grind (arith, all_weaker);
+          participants = grind (arith, all_weaker);
           config = drop (length blob - 4) blob;
           four = behind.four;
           spelled = behind.spelled;
           opens = from.opens ∙ ap Ok whole;
           reading = from.reading;
-          fits = ap (fitted_for m limits.blob c) (sym whole) ∙ from.fits;
+          fits = grind arith;
         }
 
     looked_up : (roster : Roster) (c : List ℕ) (room : ℕ) → Gives limits m a h (block_look_up c room) (block_given limits m roster s (phase_of (record_of c s))).answer

@@ -1,5 +1,5 @@
 -- What each call keeps of every record, and of the keys that it reports, holds in every state that a history leads to.
-use Rattle.std.proofs.Common.{◌≡◌, ℕ, true, List, [], ◌∷◌, is_some, IfSome, Some, None, Option, sym, refl, ap, ◌∙◌, subst, arith}
+use Rattle.std.proofs.Common.{◌≡◌, ℕ, true, List, [], ◌∷◌, is_some, IfSome, Some, None, Option, sym, refl, ap, ◌∙◌, subst, arith, inr}
 use Rattle.std.specs.List.{AllByRecursion}
 use Rattle.register.specs.Order.{order}
 use Rattle.register.specs.declared.counters.Round.{Round}
@@ -8,7 +8,7 @@ use Rattle.scheme.specs.Pieces.{Indexed}
 use Rattle.table.proofs.Carried.{all_changed, all_look, all_put, all_without}
 use Rattle.model.specs.Boxes.{all_drawn}
 use Rattle.model.specs.Calls.{Answer, refused, answered, changed_peers, given, told, Call, discovery, notarization, shard, completion, peer_change, block_look_up, verified_look_up, Report, phase_of, turned_down}
-use Rattle.model.specs.Histories.{Agrees, Assignment, Brings, Counts, Entry, Event, Leads, Names}
+use Rattle.model.specs.Histories.{Agrees, Announced, Assignment, Brings, Counts, Entry, Event, HandedIn, Leads, Names}
 use Rattle.model.specs.Intake.{intake}
 use Rattle.model.specs.Jobs.{completes, failing, job_in, tries}
 use Rattle.model.specs.Meaning.{Meaning, Roster}
@@ -83,10 +83,10 @@ module _ (limits : Limits) (m : Meaning) (a : Assignment) (H : List ℕ → List
           (subst (λ n. Seated a n keys (roster.own e)) (sym going.epoch) seat)
           (subst (λ d. H d p.sender p.shard) (sym going.commitment) h) going.holds in
           record {
-            commitment = ap (λ (x : Entry). x.commitment) same ∙ going.commitment;
-            epoch = ap (λ (x : Entry). x.round.epoch.0) same ∙ going.epoch;
+            commitment = grind arith;
+            epoch = grind arith;
             holds = next.0;
-            reports = all_append (λ (r : Report). R r.key) i.reports (reported p.sender (intake m limits.blob keys (roster.own e) p.sender p.shard i.rec).report) going.reports (told_key p.sender _ next.1);
+            reports = grind (arith, all_append, told_key);
           }
 
       many : (i : Ingested) (ps : List Sent) → Going i → AllByRecursion (λ p. H c p.sender p.shard) ps → Going (all_taken limits m roster keys e i ps)
@@ -109,8 +109,8 @@ module _ (limits : Limits) (m : Meaning) (a : Assignment) (H : List ℕ → List
           let going = many keys e seat r.commitment (began r) ps (record { commitment = refl; epoch = refl; holds = holds; reports = tt }) (drawn_brought H r.commitment (is_some r.leader) keys s.peers sound.boxes) in
           record {
             sound = record {
-              records = stores _ (ahead keys e seat r.commitment (all_taken limits m roster keys e (began r) ps) going);
-              boxes = left-filled H (wants limits m roster keys r) s.peers sound.boxes;
+              records = grind (arith, ahead);
+              boxes = grind (arith, left-filled);
             };
             reports = going.reports;
           })
@@ -166,10 +166,10 @@ module _ (limits : Limits) (m : Meaning) (a : Assignment) (H : List ℕ → List
           completion_ways limits m roster s Leaves c (record { sound = sound; reports = tt })
           (λ r j at out.
           let ended = completes m limits.blob j r in
-          let bad : AllByRecursion (λ p. R p.sender) (failing m limits.blob c j) = subst (λ d. AllByRecursion (λ (p : Sent). R p.sender) (failing m limits.blob d j)) (found_key filed_under c s.records r at) (keeps.blamed j r out (held c r at)) in
+          let bad : AllByRecursion (λ p. R p.sender) (failing m limits.blob c j) = grind (arith, found_key, held) in
           record {
             sound = record { records = outliving c ended.rec (keeps.completed j r out (held c r at)); boxes = sound.boxes };
-            reports = all_map (λ (r : Report). R r.key) _ (failing m limits.blob c j) bad;
+            reports = grind (arith, all_map);
           })
 
       looking : (o : Option Phase) → Leaves (block_given limits m roster s o)
@@ -212,3 +212,13 @@ module _ (limits : Limits) (m : Meaning) (a : Assignment) (H : List ℕ → List
       subst (λ (t : Step). Tells e.call t.answer → Leaves t) l.3
       (step-leaves keeps e.roster l.2 before old.sound e.call) all.0 in
       record { sound = now.sound; reports = (now.reports, old.reports) }
+
+-- what a history's calls brought and named is what is handed in and announced in it
+module _ (limits : Limits) (m : Meaning) (a : Assignment) (P : Rec → Type 0) (R : List ℕ → Type 0) where
+  all_tell : (H : List ℕ → List ℕ → Indexed → Type 0) (A : List ℕ → ℕ → Type 0) (h : List Event) → ((c k : List ℕ) (x : Indexed) → HandedIn h c k x → H c k x) → ((c : List ℕ) (e : ℕ) → Announced h c e → A c e) → AllByRecursion (λ (e : Event). Tells limits m a H A P R e.call e.answer) h
+  all_tell H A [] f g = tt
+  all_tell H A (e ∷ h) f g = grind (arith, all_tell H A h (λ c k x z. f c k x (inr z)) (λ c n z. g c n (inr z)))
+
+  pub kept : (h : List Event) (s : State) → Keeps limits m a (HandedIn h) (Announced h) P R → Leads limits m a h s → Reached limits m a (HandedIn h) (Announced h) P R h s
+  kept h s keeps leads =
+      reached limits m a (HandedIn h) (Announced h) P R keeps h s leads (all_tell (HandedIn h) (Announced h) h (λ _ _ _ z. z) (λ _ _ z. z))

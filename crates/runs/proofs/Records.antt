@@ -14,7 +14,7 @@ use Rattle.scheme.specs.Told.{Opened}
 use Rattle.table.proofs.Carried.{all_put}
 use Rattle.model.specs.Histories.{Assignment}
 use Rattle.model.specs.Intake.{assigned, owned, classed, index_of, intake, joined, sender_of, verifies, waits, with_pending, with_received}
-use Rattle.model.specs.Jobs.{blob_in, completes, job_in, numbered, passing, returned_in, shard_of, started, tried_in, tried_with, tries}
+use Rattle.model.specs.Jobs.{blob_in, completes, failing, job_in, numbered, passing, returned_in, shard_of, started, tried_in, tried_with, tries}
 use Rattle.model.specs.Meaning.{Meaning, Roster, fitted_for, good_for, minimum_of, opened_for}
 use Rattle.model.specs.Promises.{Distinct}
 use Rattle.model.specs.State.{Job, Limits, Phase, awaiting, cached, Rec, Sent, Shards, new_record, with_phase}
@@ -23,7 +23,7 @@ use Rattle.runs.proofs.Each.{all_append, all_drop, all_filter, all_map, all_take
 use Rattle.runs.proofs.Entries.{by_option}
 use Rattle.runs.proofs.Intakes.{completes_ways, intake_ways}
 use Rattle.runs.proofs.Places.{assigned_at, assigned_without, index_below, own_below}
-use Rattle.runs.proofs.Reached.{Seated}
+use Rattle.runs.proofs.Reached.{Keeps, Seated}
 use Rattle.runs.proofs.Tallies.{distinct, flag, flag_kept, flag_most, flag_set, tally, tally_append, tally_kept, tally_map, tally_put, tally_split}
 use Rattle.std.specs.Ordering.{nat_cmp}
 
@@ -105,10 +105,10 @@ module _ (limits : Limits) (m : Meaning) (a : Assignment) (H : List ℕ → List
     joins : (w : Shards) → Checked c e s → Awaits c e flags w → Awaits c e (set flags s.index true) (with_received s (w.checked ++ s ∷ []) w)
     joins w checked h = record {
       received = all_put nat_cmp index_of (Received c e) s w.received (record { sender = checked.sender; handed = checked.handed; cause = inl checked.good }) h.received;
-      checked = all_append (Checked c e) w.checked (s ∷ []) h.checked (checked, tt);
+      checked = grind (arith, all_append);
       pending = h.pending;
       job = h.job;
-      once = λ i. let r = flag_set flags s.index i (omega arith) down in let n = h.once i in let t = tally_append index_of i w.checked (s ∷ []) in omega arith;
+      once = λ i. grind (arith, flag_set, tally_append);
     }
 
     pends : (sender : List ℕ) (w : Shards) → H c sender s → index sender (a.keys e) ≡ Some s.index → (a.own e ≡ Some s.index → ⊥) → Awaits c e flags w → Awaits c e (set flags s.index true) (with_pending (record { sender = sender; shard = s }) w)
@@ -148,8 +148,7 @@ module _ (limits : Limits) (m : Meaning) (a : Assignment) (H : List ℕ → List
           announced = fine.announced;
           long = length-set r.contributed s.index true ∙ long;
           own = λ i is _.
-              let same = assigned_at r.leader sender place s.index own i class (seat.own_is ∙ is) in
-              subst (λ j. get_or (set r.contributed s.index true) j false ≡ true) same (get_or-set_same r.contributed s.index true false (omega arith));
+              grind (arith, assigned_at, get_or-set_same);
           holds =
               joined_holds r.commitment r.round.epoch.0 r.contributed s long (omega arith) down r.phase
               (record { good = good; below = within s.index l; sender = sender; handed = handed }) fine.holds;
@@ -165,9 +164,7 @@ module _ (limits : Limits) (m : Meaning) (a : Assignment) (H : List ℕ → List
           long = length-set r.contributed s.index true ∙ long;
           own = λ i is seen. own_stays i (fine.own i) is seen;
           holds =
-              pends r.commitment r.round.epoch.0 r.contributed s long (omega arith) down sender w handed
-              (subst (λ ks. index sender ks ≡ Some s.index) seat.keys_are at) (λ is. apart (seat.own_is ∙ is))
-              (subst (Holds r.commitment r.round.epoch.0 r.contributed) early fine.holds);
+              grind (arith, pends);
         }
 
     -- a shard that waits is at its sender's index, which is not this node's
@@ -185,8 +182,7 @@ module _ (limits : Limits) (m : Meaning) (a : Assignment) (H : List ℕ → List
           bad = λ _. fine;
           verified = λ place at class down _ good. verifies_fine place at class down good;
           waiting = λ place w at early _ down class.
-              let p = waits_placed place down class in
-              waits_fine w early (at ∙ ap Some (sym p.0)) p.1 down;
+              grind (arith, waits_placed, waits_fine);
         })
 
   -- a job that starts takes shards over as they are
@@ -202,7 +198,7 @@ module _ (limits : Limits) (m : Meaning) (a : Assignment) (H : List ℕ → List
           pending = all_take (Pending c e) n w.pending h.pending;
           enough = let l = length-take n w.pending in omega arith;
         };
-        once = λ i. let o = h.once i in let t = tally_split sent_at i n w.pending in omega arith;
+        once = λ i. grind (arith, tally_split);
       }
 
   tried_holds : (c : List ℕ) (e : ℕ) (flags : List Bool) (p : Phase) → Holds c e flags p → Holds c e flags (tried_in (minimum_of c) p)
@@ -220,7 +216,7 @@ module _ (limits : Limits) (m : Meaning) (a : Assignment) (H : List ℕ → List
     announced = fine.announced;
     long = fine.long;
     own = fine.own;
-    holds = tried_holds r.commitment r.round.epoch.0 r.contributed r.phase fine.holds;
+    holds = grind (arith, tried_holds);
   }
 
   -- a pending shard that is good counts as checked
@@ -258,11 +254,7 @@ module _ (limits : Limits) (m : Meaning) (a : Assignment) (H : List ℕ → List
         pending = h.pending;
         job = tt;
         once = λ i.
-            let n = h.once i in
-            let same = ap (at_job i) out in
-            let t = tally_append index_of i w.checked shards in
-            let k = passing_once c i j in
-            omega arith;
+            grind (arith, tally_append, passing_once);
       }
   returned_holds c e flags (cached blob) j out h = h
 
@@ -290,7 +282,7 @@ module _ (limits : Limits) (m : Meaning) (a : Assignment) (H : List ℕ → List
               holds = record {
                 shards = shards;
                 many = many;
-                distinct = distinct index_of shards (λ i. let k = passing_once c i j in let o = out_once c e flags r.phase j out fine.holds i in omega arith);
+                distinct = grind (arith, distinct, passing_once, out_once);
                 each = passing_checked c e j (out_of c e flags r.phase j out fine.holds);
                 opens = parts.0;
                 reading = reading;
@@ -299,3 +291,18 @@ module _ (limits : Limits) (m : Meaning) (a : Assignment) (H : List ℕ → List
             };
         fault = λ _ _ _. tt;
       })
+
+  -- what holds of records is kept, whatever is shown of the keys that are reported
+  pub fine_keeps : (R : List ℕ → Type 0) →
+      ((keys : List (List ℕ)) (own : Option ℕ) (sender : List ℕ) (s : Indexed) (r : Rec) → Seated a r.round.epoch.0 keys own → H r.commitment sender s → FineRecord r → IfSome (intake m limits.blob keys own sender s r).report (λ _. R sender)) →
+      ((j : Job) (r : Rec) → job_in r.phase ≡ Some j → FineRecord r → AllByRecursion (λ p. R p.sender) (failing m limits.blob r.commitment j)) →
+      Keeps limits m a H A FineRecord R
+  fine_keeps R spared blamed = record {
+    new = new_fine;
+    observed = observed_fine;
+    led = λ leader r fine. fine;
+    taken = λ keys own sender s r seat handed fine. (taken_fine keys own sender s r seat handed fine, spared keys own sender s r seat handed fine);
+    tried = tried_fine;
+    completed = completed_fine;
+    blamed = blamed;
+  }

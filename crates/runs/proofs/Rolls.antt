@@ -72,21 +72,21 @@ module _ (limits : Limits) (m : Meaning) (roster : Roster) (s : State) (up : Asc
 
   stood : (o : Outcome) (ps : List Peer) (rs : List Report) (a : Option Action) (r x : Rec) → says_held o ≡ true → record_of c s ≡ Some r → entry_of x ≡ raised round (entry_of r) → Announcing (record { state = record { records = replaced x s.records; peers = ps }; answer = answered o rs a })
   stood o ps rs a r x held at same =
-      let found : on_roll c (map entry_of s.records) ≡ Some (entry_of r) = roll_look c s.records ∙ ap (option_map entry_of) at in
+      let found : on_roll c (map entry_of s.records) ≡ Some (entry_of r) = grind (arith, roll_look) in
       let key : c ≡ x.commitment = sym (Entries.found_key filed_under c s.records r at) ∙ ap commitment_of (sym same) in
-      let long : length (replaced x s.records) ≤ limits.window = subst (λ n. n ≤ limits.window) (sym (length-changed order filed_under (λ _. x) x.commitment s.records)) few in
+      let long : length (replaced x s.records) ≤ limits.window = grind (arith, length-changed) in
       let whole = Entries.trimmed_few round_of filed_under limits.window (replaced x s.records) long in
       record {
         follows =
             simp (held, found)
             (changed_alike order commitment_of (raised round) (λ _. entry_of x) c (map entry_of s.records) (entry_of r) found (sym same) ∙ ap (λ k. changed order commitment_of (λ _. entry_of x) k (map entry_of s.records)) key ∙ sym (map-changed order filed_under order commitment_of entry_of (λ _. x) (λ _. entry_of x) x.commitment x.commitment s.records (λ _. refl) (λ _. refl)) ∙ ap (map entry_of) (sym whole));
         ascend = subst (Ascends order filed_under) (sym whole) (Entries.replaced_ascends filed_under x s.records up);
-        within = subst (λ rs. length rs ≤ limits.window) (sym whole) long;
+        within = grind arith;
       }
 
   admitted : (o : Outcome) (ps : List Peer) (rs : List Report) (a : Option Action) (x : Rec) → says_held o ≡ true → record_of c s ≡ None → entry_of x ≡ record { commitment = c; round = round } → Announcing (record { state = record { records = put order filed_under x s.records; peers = ps }; answer = answered o rs a })
   admitted o ps rs a x held at same =
-      let found : on_roll c (map entry_of s.records) ≡ None = roll_look c s.records ∙ ap (option_map entry_of) at in
+      let found : on_roll c (map entry_of s.records) ≡ None = grind (arith, roll_look) in
       let rose = (Entries.entry_laws filed_under).put_ascends x s.records up in
       let most = length-put order filed_under x s.records in
       record {
@@ -143,11 +143,11 @@ module _ (limits : Limits) (m : Meaning) (roster : Roster) (s : State) (up : Asc
   kept : (c : List ℕ) (r x : Rec) → record_of c s ≡ Some r → entry_of x ≡ entry_of r → Same (replaced x s.records)
   kept c r x at same =
       let key : x.commitment ≡ c = ap commitment_of same ∙ Entries.found_key filed_under c s.records r at in
-      let found : on_roll x.commitment (map entry_of s.records) ≡ Some (entry_of r) = ap (λ k. on_roll k (map entry_of s.records)) key ∙ roll_look c s.records ∙ ap (option_map entry_of) at in
+      let found : on_roll x.commitment (map entry_of s.records) ≡ Some (entry_of r) = grind (arith, roll_look) in
       record {
         follows = sym (map-changed order filed_under order commitment_of entry_of (λ _. x) (λ _. entry_of x) x.commitment x.commitment s.records (λ _. refl) (λ _. refl) ∙ changed_same order commitment_of (λ _. entry_of x) x.commitment (map entry_of s.records) (entry_of r) found same);
         ascend = Entries.replaced_ascends filed_under x s.records up;
-        within = subst (λ n. n ≤ limits.window) (sym (length-changed order filed_under (λ _. x) x.commitment s.records)) few;
+        within = grind (arith, length-changed);
       }
 
   shard_same : (c peer : List ℕ) (x : Indexed) → Same (shard_of limits m roster c peer x s).state.records
@@ -178,9 +178,9 @@ module _ (limits : Limits) (m : Meaning) (roster : Roster) (s : State) (up : Asc
             record { follows = same.follows; ascend = same.ascend; within = same.within };
         fault = λ _ _ _.
             record {
-              follows = sym (map-without order filed_under order commitment_of entry_of c c s.records (λ _. refl));
+              follows = grind (arith, map-without);
               ascend = (Entries.entry_laws filed_under).without_ascends c s.records up;
-              within = let h = without_at_most order filed_under c s.records in omega arith;
+              within = grind (arith, without_at_most);
             };
       }))
 

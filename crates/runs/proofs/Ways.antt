@@ -48,10 +48,9 @@ module _ (limits : Limits) (m : Meaning) (roster : Roster) (s : State) (Q : Step
         (λ _. ways.still NoMember refl)
         (λ _ _.
         by_option (λ o. Q (discovered_by limits m roster c leader round s o)) (record_of c s)
-        (λ none. entering (Some leader) none (ap is_some known))
+        (λ none. grind (arith, entering))
         (λ r at.
-        cond_both (same_epoch r.round round) (discovers limits m roster leader r.leader (observes limits m roster round r) s) (stays limits m roster OtherEpoch s) Q
-        (λ same. leading leader r at same) (λ _. ways.still OtherEpoch refl))))
+        grind (arith, leading))))
 
     pub notarization_ways : Q (notarization_of limits m roster c round s)
     unfolding notarization_of
@@ -61,12 +60,7 @@ module _ (limits : Limits) (m : Meaning) (roster : Roster) (s : State) (Q : Step
         by_option (λ o. Q (in_epoch limits m roster o (λ _. enters limits m roster c round None s) s)) (roster.keys round.epoch.0)
         (λ _. ways.still NoEpoch refl) (λ keys known. entering None none (ap is_some known)))
         (λ r at.
-        let x = observes limits m roster round r in
-        cond_both (same_epoch r.round round) (notarizes limits m roster x s) (stays limits m roster OtherEpoch s) Q
-        (λ same.
-        by_phases (λ p. r.phase ≡ p → Q (by_phase p (box_intake limits m roster (λ y. replaced y s.records) x s) (stays limits m roster Cached (with_records (replaced x s.records) s)))) r.phase
-        (λ w early _. ways.again r w at same early) (λ blob _ _. ways.stood Cached r refl at same) refl)
-        (λ _. ways.still OtherEpoch refl))
+        grind arith)
 
   -- a shard from a peer
   pub record ShardWays (c peer : List ℕ) (x : Indexed) : Type 0 where
