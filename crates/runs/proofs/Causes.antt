@@ -1,7 +1,7 @@
 -- A member that keeps to the rules is never reported.
 use Rattle.std.proofs.Common.{◌≡◌, ℕ, true, not, List, is_some, IfSome, Some, None, filter, Option, sym, ap, ◌∙◌, subst, ⊎_elim, arith}
 use Rattle.std.proofs.lemmas.Slice.Eq.{bytes_eq-Decides}
-use Rattle.std.proofs.lemmas.Bool.{both_ways, not-true}
+use Rattle.std.proofs.lemmas.Bool.{both_ways}
 use Rattle.std.proofs.lemmas.Option.{same_Some}
 use Rattle.std.specs.List.{AllByRecursion}
 use Rattle.std.specs.Str.{bytes_eq}
@@ -21,7 +21,7 @@ use Rattle.runs.proofs.Entries.{number_laws, number_same}
 use Rattle.runs.proofs.Intakes.{intake_ways}
 use Rattle.runs.proofs.Places.{index_same, stray_not_at, stray_not_own}
 use Rattle.runs.proofs.Reached.{Reports, Seated, kept}
-use Rattle.runs.proofs.Records.{fine_keeps, FineRecord, Holds, Pending, Received, completed_fine, new_fine, observed_fine, out_of, taken_fine, tried_fine}
+use Rattle.runs.proofs.Records.{fine_keeps, FineRecord, Holds, Pending, Received, out_of}
 use Rattle.std.specs.Ordering.{nat_cmp}
 
 module _ (limits : Limits) (m : Meaning) (a : Assignment) (h : List Event) (k : List ℕ) (blameless : Blameless limits m a h k) where

@@ -1,5 +1,5 @@
 -- A block that a look-up gives is what good shards, each handed in, open to.
-use Rattle.std.proofs.Common.{◌≡◌, ℕ, ◌-◌, ◌<◌, eqb, List, [], ◌∷◌, ◌++◌, length, drop, Some, Ok, sym, refl, ap, ◌∙◌, subst, arith, length-drop, take-append-drop}
+use Rattle.std.proofs.Common.{◌≡◌, ℕ, ◌-◌, eqb, List, [], ◌∷◌, ◌++◌, length, drop, Some, Ok, sym, refl, ap, ◌∙◌, subst, arith, length-drop, take-append-drop}
 use Rattle.std.proofs.lemmas.Grind.{common_steps}
 use Rattle.std.proofs.lemmas.Bool.{and_parts, eqb-true}
 use Rattle.std.specs.List.{AllByRecursion}
@@ -13,13 +13,13 @@ use Rattle.table.proofs.Carried.{all_look}
 use Rattle.model.specs.Calls.{Call, discovery, notarization, shard, completion, peer_change, block_look_up, verified_look_up, block_in, phase_of, turned_down}
 use Rattle.model.specs.Histories.{Announced, Assignment, Event, HandedIn, Leads}
 use Rattle.model.specs.Meaning.{Meaning, Roster, fitted_for}
-use Rattle.model.specs.Promises.{BlocksWereHandedIn, Gives, GoodShard, HandedInBlock}
+use Rattle.model.specs.Promises.{BlocksWereHandedIn, Gives, HandedInBlock}
 use Rattle.model.specs.State.{Limits, Rec, State, record_of}
 use Rattle.model.specs.Steps.{Step, block_given, step, unless_refused}
 use Rattle.runs.proofs.Each.{all_weaker}
 use Rattle.runs.proofs.Entries.{by_option, found_key}
 use Rattle.runs.proofs.Reached.{kept}
-use Rattle.runs.proofs.Records.{Checked, FineRecord, OpenedFrom, fine_keeps}
+use Rattle.runs.proofs.Records.{FineRecord, OpenedFrom, fine_keeps}
 use Rattle.runs.proofs.Rolls.{roll_record}
 use Rattle.runs.specs.Rolls.{entry_of}
 
@@ -35,9 +35,16 @@ record Ends (c blob : List ℕ) : Type 0 where
 fitted-ends : (limits : Limits) (m : Meaning) (c blob : List ℕ) (r : Reading) → fitted_for m limits.blob c blob ≡ Ok r → Ends c blob
 fitted-ends limits m c blob r e =
     let b = matched_behind m.digest c blob (m.reads blob) (parsed blob (m.reads blob)) r refl e in
+    let long = b.1.long in
     let at : length blob - 4 ≡ r.len = omega arith in
-    let config : b.0 ≡ config_of c = grind arith in
-    record { four = length-drop (length blob - 4) blob ∙ omega arith; spelled = grind (arith, config_behind) }
+    let same = and_parts (eqb b.0.minimum (config_of c).minimum) (eqb b.0.extra (config_of c).extra) b.2 in
+    let low = eqb-true b.0.minimum (config_of c).minimum same.0 in
+    let high = eqb-true b.0.extra (config_of c).extra same.1 in
+    let config : b.0 ≡ config_of c = λ i. record { minimum = low i; extra = high i } in
+    record {
+      four = length-drop (length blob - 4) blob ∙ omega arith;
+      spelled = config_behind blob (length blob - 4) ∙ ap (config_at blob) at ∙ b.1.is ∙ config;
+    }
 
 all_anything : {X : Type 0} (xs : List X) → AllByRecursion (λ _. Unit {0}) xs
 all_anything [] = tt

@@ -1,5 +1,5 @@
 -- What each call keeps of every record, and of the keys that it reports, holds in every state that a history leads to.
-use Rattle.std.proofs.Common.{◌≡◌, ℕ, true, List, [], ◌∷◌, is_some, IfSome, Some, None, Option, sym, refl, ap, ◌∙◌, subst, arith, inr}
+use Rattle.std.proofs.Common.{◌≡◌, ℕ, true, List, [], ◌∷◌, is_some, IfSome, Some, None, Option, sym, refl, subst, arith, inr}
 use Rattle.std.specs.List.{AllByRecursion}
 use Rattle.register.specs.Order.{order}
 use Rattle.register.specs.declared.counters.Round.{Round}
@@ -8,7 +8,7 @@ use Rattle.scheme.specs.Pieces.{Indexed}
 use Rattle.table.proofs.Carried.{all_changed, all_look, all_put, all_without}
 use Rattle.model.specs.Boxes.{all_drawn}
 use Rattle.model.specs.Calls.{Answer, refused, answered, changed_peers, given, told, Call, discovery, notarization, shard, completion, peer_change, block_look_up, verified_look_up, Report, phase_of, turned_down}
-use Rattle.model.specs.Histories.{Agrees, Announced, Assignment, Brings, Counts, Entry, Event, HandedIn, Leads, Names}
+use Rattle.model.specs.Histories.{Agrees, Announced, Assignment, Brings, Counts, Event, HandedIn, Leads, Names}
 use Rattle.model.specs.Intake.{intake}
 use Rattle.model.specs.Jobs.{completes, failing, job_in, tries}
 use Rattle.model.specs.Meaning.{Meaning, Roster}

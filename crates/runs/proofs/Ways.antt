@@ -1,6 +1,5 @@
 -- What each call can come to, with what led there: whatever holds of each way holds of the call.
 use Rattle.std.proofs.Common.{◌≡◌, ℕ, true, false, List, [], is_some, Some, None, Option, refl, ap, arith}
-use Rattle.std.proofs.lemmas.Bool.{cond_both}
 use Rattle.register.specs.declared.counters.Round.{Round}
 use Rattle.rosters.specs.Sound.{index}
 use Rattle.scheme.specs.Pieces.{Indexed}
@@ -10,13 +9,12 @@ use Rattle.model.specs.Histories.{says_held}
 use Rattle.model.specs.Jobs.{completes, job_in}
 use Rattle.model.specs.Meaning.{Meaning, Roster}
 use Rattle.model.specs.State.{Job, Limits, awaiting, Rec, Shards, State, filed_under, new_record, record_of, round_of, with_leader, with_peers, with_records}
-use Rattle.model.specs.Steps.{Step, all_taken, began, boxes_shard, box_intake, by_phase, completion_of, discovered_by, discovers, discovery_of, drew, ends, entered, enters, in_epoch, led_by, notarization_of, notarized_by, notarizes, observes, replaced, same_epoch, shard_of, stays, takes_shard, too_early, wants}
+use Rattle.model.specs.Steps.{Step, all_taken, began, boxes_shard, box_intake, completion_of, discovered_by, discovers, discovery_of, drew, ends, entered, enters, in_epoch, led_by, notarization_of, notarized_by, observes, replaced, same_epoch, shard_of, stays, takes_shard, too_early, wants}
 use Rattle.model.specs.Window.{admits}
 use Rattle.model.specs.declared.answer.Outcome.{Outcome}
-use Rattle.model.specs.declared.answer.Outcome.TheVariants.{NoEpoch, NoMember, OtherEpoch, Held, Cached, Boxed}
+use Rattle.model.specs.declared.answer.Outcome.TheVariants.{NoEpoch, NoMember, Held, Boxed}
 use Rattle.model.specs.declared.answer.Refusal.TheVariants.{NoJob}
 use Rattle.runs.proofs.Entries.{by_option, found_key}
-use Rattle.runs.proofs.Intakes.{by_phases}
 
 module _ (limits : Limits) (m : Meaning) (roster : Roster) (s : State) (Q : Step → Type 0) where
   -- box intake draws nothing where the epoch is unknown
