@@ -51,7 +51,7 @@ module _ (limits : Limits) (m : Meaning) (a : Assignment) (c : List ℕ) (ep : �
         let named = found_key filed_under c s.records r at in
         box_ways limits m roster s FineHere (λ y. replaced y s.records) x
         (λ _. placed limits m a c ep Hand roster call s es up r x s.peers (answered Held [] None) at named (larger_epoch r.round round same) boxes
-        (λ old_ep _ live. goes r x (answered Held [] None) (λ live. record { sound = live.sound; settled = live.settled; grows = λ i h. h }) live))
+        (λ old_ep _ live. grind (arith, goes)))
         (λ ks known.
         let i = all_taken limits m roster ks x.round.epoch.0 (began x) (all_drawn (wants limits m roster ks x) s.peers) in
         let entry = advanced_entry i ∙ taken_entry limits m roster ks x.round.epoch.0 (began x) (all_drawn (wants limits m roster ks x) s.peers) in
@@ -64,7 +64,7 @@ module _ (limits : Limits) (m : Meaning) (a : Assignment) (c : List ℕ) (ep : �
     announced_here proper = record {
       still = λ o _. still o;
       stood = λ o r held at same. placed limits m a c ep Hand roster call s es up r (observes limits m roster round r) s.peers (answered o [] None) at (found_key filed_under c s.records r at) (larger_epoch r.round round same) boxes
-          (λ old_ep _ live. goes r (observes limits m roster round r) (answered o [] None) (λ live. record { sound = live.sound; settled = live.settled; grows = λ i h. h }) live);
+          (λ old_ep _ live. grind (arith, goes));
       led = λ leader r at same _. drawing (Some leader) r at same;
       again = λ r w at same _. drawing r.leader r at same;
       new = λ leader none some _.
@@ -97,7 +97,7 @@ module _ (limits : Limits) (m : Meaning) (a : Assignment) (c : List ℕ) (ep : �
           let i = all_taken limits m roster ks x.round.epoch.0 (began x) (all_drawn (wants limits m roster ks x) s.peers) in
           let entry = advanced_entry i ∙ taken_entry limits m roster ks x.round.epoch.0 (began x) (all_drawn (wants limits m roster ks x) s.peers) in
           let_in_other limits m a c ep Hand roster call s es up (advanced i) (all_left (wants limits m roster ks x) s.peers) (answered Held i.reports i.action)
-          (λ is. other (sym (ap (λ n. n.commitment) entry) ∙ is)) (left-filled (For c Hand) (wants limits m roster ks x) s.peers boxes) (silent _));
+          (λ is. grind arith) (left-filled (For c Hand) (wants limits m roster ks x) s.peers boxes) (silent _));
     }
       where
         not_here : (r : Rec) → record_of d s ≡ Some r → r.commitment ≡ c → ⊥
@@ -111,7 +111,7 @@ module _ (limits : Limits) (m : Meaning) (a : Assignment) (c : List ℕ) (ep : �
             let i = all_taken limits m roster ks x.round.epoch.0 (began x) (all_drawn (wants limits m roster ks x) s.peers) in
             let entry = advanced_entry i ∙ taken_entry limits m roster ks x.round.epoch.0 (began x) (all_drawn (wants limits m roster ks x) s.peers) in
             placed_other limits m a c ep Hand roster call s es up (advanced i) (all_left (wants limits m roster ks x) s.peers) (answered Held i.reports i.action)
-            (λ is. not (sym (ap (λ n. n.commitment) entry) ∙ is)) (left-filled (For c Hand) (wants limits m roster ks x) s.peers boxes) (silent _))
+            (λ is. grind arith) (left-filled (For c Hand) (wants limits m roster ks x) s.peers boxes) (silent _))
 
   -- what is beyond the window leaves
   pub trimmed_fine : (t : Step) → FineHere t → FineHere (within_window limits m roster t)

@@ -52,4 +52,4 @@ stands q (x ∷ xs) some = grind (arith, stands q xs)
 
 -- distinct numbers each of which is counted in a list are at most as many as its entries
 pub covered : (ps xs : List ℕ) → Distinct ps → AllByRecursion (λ p. 1 ≤ tally itself p xs) ps → length ps ≤ length xs
-covered ps xs d all = length-le_from_is_member nat_eq_equiv ps xs (apart ps d) (λ q here. stands q xs (found (λ p. 1 ≤ tally itself p xs) ps q all here))
+covered ps xs d all = length-le_from_is_member nat_eq_equiv ps xs (apart ps d) (λ q here. grind (arith, stands, found))

@@ -61,7 +61,7 @@ module _ (limits : Limits) (m : Meaning) (a : Assignment) (c : List ℕ) (e : �
         record {
           sound = t.sound;
           grows = λ n h. t.grows n (row.grows n h);
-          still = λ quiet. let both = or_parts i.gained _ quiet in t.still both.1 ∙ row.still both.0;
+          still = λ quiet. grind (arith, or_parts);
           commitment = t.commitment ∙ row.commitment;
         }
 

@@ -106,7 +106,7 @@ module _ (m : Meaning) (limit : ℕ) (keys : List (List ℕ)) (own : Option ℕ)
         record {
           more = gone ++ lost;
           sound = t.0;
-          losses = all_append (Lost good' minimum' keys own Hand) gone lost (bad_lost good' minimum' keys own Hand j.pending k.0.job.1) losses;
+          losses = grind (arith, all_append, bad_lost, losses);
           settled = t.1;
           longer = omega arith;
           number = many;
@@ -120,7 +120,7 @@ module _ (m : Meaning) (limit : ℕ) (keys : List (List ℕ)) (own : Option ℕ)
     decoded-left n opened (Ok reading) =
         record {
           more = lost;
-          sound = lost_once good' minimum' keys own Hand r.contributed r.verified (with_job (Some j) w) lost k.0;
+          sound = grind (arith, lost_once);
           losses = losses;
           settled = tt;
           longer = omega arith;

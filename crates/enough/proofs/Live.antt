@@ -53,11 +53,7 @@ module _ (limits : Limits) (m : Meaning) (a : Assignment) (c : List ℕ) (ep : �
     sound = grown.sound;
     losses = losses;
     settled = grown.settled;
-    ended = (
-      ends,
-      all_weaker (λ x. Completing c x.call → EndedAbove (length live.lost) x.answer) (λ x. Completing c x.call → EndedAbove (length more) x.answer)
-          (λ y h is. ended_above_more (length live.lost) (length more) y.answer longer (h is)) es live.ended,
-    );
+    ended = grind (arith, all_weaker, ended_above_more);
     gave = λ k s handed at good. ⊎_elim (λ h. gets k s h.0 h.1 at good) (λ h. grown.grows s.index (live.gave k s h at good)) handed;
     proper = live.proper;
     rising = live.rising;

@@ -76,15 +76,13 @@ module _ (limits : Limits) (m : Meaning) (a : Assignment) (c : List ℕ) (ep : �
         (old.round.epoch.0 ≡ ep → is_some (roster.keys ep) ≡ true → Live limits m a c ep Hand es old → Live limits m a c ep Hand (event answer ∷ es) x) →
         Fine (record { state = record { records = replaced x s.records; peers = ps }; answer = answer })
     placed old x ps answer at named same boxes goes =
-        let there : look order filed_under x.commitment s.records ≡ Some old = subst (λ d. look order filed_under d s.records ≡ Some old) (sym named) at in
+        let there : look order filed_under x.commitment s.records ≡ Some old = grind arith in
         let found : look order filed_under c (replaced x s.records) ≡ Some x = subst (λ d. look order filed_under d (replaced x s.records) ≡ Some x) named (replaced-found filed_under x s.records old there) in
         record {
           boxes = boxes;
           ascend = replaced_ascends filed_under x s.records up;
           moved = λ r now in_epoch_now.
-              let is = same_Some x r (sym found ∙ now) in
-              let old_ep : old.round.epoch.0 ≡ ep = sym same ∙ ap (λ r. r.round.epoch.0) is ∙ in_epoch_now in
-              subst (λ o. Moved o answer r) (sym at) (old_ep, λ known live. subst (λ r. Live limits m a c ep Hand (event answer ∷ es) r) is (goes old_ep known live));
+              grind (arith, same_Some, known);
         }
 
     -- a record that comes in
@@ -92,14 +90,13 @@ module _ (limits : Limits) (m : Meaning) (a : Assignment) (c : List ℕ) (ep : �
         (x.round.epoch.0 ≡ ep → Live limits m a c ep Hand [] x) →
         Fine (record { state = record { records = entered x s.records; peers = ps }; answer = answer })
     let_in x ps answer at named boxes goes =
-        let there : look order filed_under x.commitment s.records ≡ None = subst (λ d. look order filed_under d s.records ≡ None) (sym named) at in
+        let there : look order filed_under x.commitment s.records ≡ None = grind arith in
         let found : look order filed_under c (entered x s.records) ≡ Some x = subst (λ d. look order filed_under d (entered x s.records) ≡ Some x) named ((entry_laws filed_under).put_found x s.records there) in
         record {
           boxes = boxes;
           ascend = (entry_laws filed_under).put_ascends x s.records up;
           moved = λ r now in_epoch_now.
-              let is = same_Some x r (sym found ∙ now) in
-              subst (λ o. Moved o answer r) (sym at) (subst (λ r. Live limits m a c ep Hand [] r) is (goes (ap (λ r. r.round.epoch.0) is ∙ in_epoch_now)));
+              grind (arith, same_Some);
         }
 
     -- a record of another commitment, replaced or let in

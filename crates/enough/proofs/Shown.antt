@@ -87,7 +87,7 @@ example = (
       record { member = omega arith; bytes = Example.blob; good = refl; handed = inr (inr (inr (inr (inl (tt, (refl, refl, refl)))))); only = λ others h. only Example.first_key 0 others (omega arith) h },
       (record { member = omega arith; bytes = Example.blob; good = refl; handed = inr (inr (inl (tt, (refl, refl, refl)))); only = λ others h. only Example.second_key 1 others (omega arith) h }, tt),
     );
-    known = (refl, (refl, (refl, (refl, (refl, (refl, tt))))));
+    known = grind arith;
     opens = opens;
   },
 )

@@ -1,5 +1,5 @@
 -- Every history that leads to a state: what is true of the record of a commitment and of the events since its admission.
-use Rattle.std.proofs.Common.{◌≡◌, ℕ, Bool, true, false, cond, ◌&&◌, List, [], ◌∷◌, is_some, Some, None, Option, sym, refl, subst, inl, inr, ⊎_elim, arith}
+use Rattle.std.proofs.Common.{◌≡◌, ℕ, Bool, true, false, cond, ◌&&◌, List, [], ◌∷◌, is_some, Some, None, Option, sym, refl, subst, inr, ⊎_elim, arith}
 use Rattle.std.proofs.lemmas.Bool.{and_parts}
 use Rattle.std.specs.Option.{option_map}
 use Rattle.std.specs.List.{AllByRecursion}
@@ -45,7 +45,7 @@ module _ (limits : Limits) (m : Meaning) (a : Assignment) (c : List ℕ) (ep : �
         (⊎_elim
         (λ same. subst (λ d. turned_down limits s (discovery d leader round rooms) ≡ None → FineOf (discovery d leader round rooms) (discovery_of limits m roster d leader round s)) (sym same)
         (λ none. discovery_ways limits m roster s (FineOf (discovery c leader round rooms)) c round
-        (announced_here limits m a c ep Hand roster (discovery c leader round rooms) s es agrees boxes up (λ answer. record { ends = λ is. absurd is; brings = λ k y counts brings. absurd brings }) round (and_parts (is_commitment c) (is_key leader) (passed (is_commitment c && is_key leader) _ _ none)).0) leader) none)
+        (announced_here limits m a c ep Hand roster (discovery c leader round rooms) s es agrees boxes up (λ answer. grind arith) round (and_parts (is_commitment c) (is_key leader) (passed (is_commitment c && is_key leader) _ _ none)).0) leader) none)
         (λ other. discovery_ways limits m roster s (FineOf (discovery d leader round rooms)) d round (announced_there limits m a c ep Hand roster (discovery d leader round rooms) s es agrees boxes up quiet round d other) leader)
         (cases_same d c))
       where
@@ -56,7 +56,7 @@ module _ (limits : Limits) (m : Meaning) (a : Assignment) (c : List ℕ) (ep : �
         (⊎_elim
         (λ same. subst (λ d. turned_down limits s (notarization d round rooms) ≡ None → FineOf (notarization d round rooms) (notarization_of limits m roster d round s)) (sym same)
         (λ none. notarization_ways limits m roster s (FineOf (notarization c round rooms)) c round
-        (announced_here limits m a c ep Hand roster (notarization c round rooms) s es agrees boxes up (λ answer. record { ends = λ is. absurd is; brings = λ k y counts brings. absurd brings }) round (passed (is_commitment c) _ _ none))) none)
+        (announced_here limits m a c ep Hand roster (notarization c round rooms) s es agrees boxes up (λ answer. grind arith) round (passed (is_commitment c) _ _ none))) none)
         (λ other. notarization_ways limits m roster s (FineOf (notarization d round rooms)) d round (announced_there limits m a c ep Hand roster (notarization d round rooms) s es agrees boxes up quiet round d other))
         (cases_same d c))
       where
@@ -65,7 +65,7 @@ module _ (limits : Limits) (m : Meaning) (a : Assignment) (c : List ℕ) (ep : �
     done_fine (shard d peer x rooms) none handed =
         ⊎_elim
         (λ same.
-        let hand : Hand peer x = handed (counted d peer x) peer x (same, refl, refl) in
+        let hand : Hand peer x = grind (arith, counted) in
         subst (λ d. FineOf (shard d peer x rooms) (shard_of limits m roster d peer x s)) (sym same) (shard_here limits m a c ep Hand roster s es agrees boxes up peer x rooms hand))
         (λ other. shard_there limits m a c ep Hand roster s es agrees boxes up peer x rooms d other)
         (cases_same d c)
@@ -96,7 +96,7 @@ module _ (limits : Limits) (m : Meaning) (a : Assignment) (c : List ℕ) (ep : �
       let before = l.0 in
       let old = standing h before l.1 (λ k x p. handed k x (inr p)) in
       let fine = step_fine e.roster before (since limits.window c h) l.2 old.boxes (records_ascend limits m a h before l.1) e.call
-      (λ counts k x brings. handed k x (inl (subst (λ t. Counts t.answer) l.3 counts, brings))) in
+      (λ counts k x brings. grind arith) in
       let now = subst (Fine limits m a c ep Hand e.roster e.call before (since limits.window c h)) l.3 fine in
       record {
         boxes = now.boxes;
@@ -105,6 +105,6 @@ module _ (limits : Limits) (m : Meaning) (a : Assignment) (c : List ℕ) (ep : �
             (by_option (λ o. Moved limits m a c ep Hand e.roster e.call before (since limits.window c h) o e.answer r →
             AllByRecursion (λ x. is_some (x.roster.keys ep) ≡ true) (cond (is_some (option_map entry_of o)) (e ∷ since limits.window c h) []) → Live limits m a c ep Hand (cond (is_some (option_map entry_of o)) (e ∷ since limits.window c h) []) r) (record_of c before)
             (λ _ live _. live)
-            (λ q was moved known. moved.1 known.0 (old.live q was moved.0 known.1))
+            (λ q was moved known. grind arith)
             (now.moved r at in_epoch_now));
       }

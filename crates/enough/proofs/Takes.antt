@@ -1,6 +1,6 @@
 -- Intake keeps a record sound, and a member's good shard at its own index has then contributed there.
 use Rattle.std.proofs.Common.{◌≡◌, ℕ, ◌<◌, ◌≤◌, Bool, true, false, cond, eqb, List, [], ◌∷◌, ◌++◌, length, get_or, set, Some, None, Option, Equal, sym, refl, ap, ◌∙◌, arith, length-set}
-use Rattle.std.proofs.lemmas.Bool.{and_parts, both_ways, cond_both, eq-eqb, eqb-true}
+use Rattle.std.proofs.lemmas.Bool.{and_parts, both_ways, cond_both, eqb-true}
 use Rattle.std.proofs.lemmas.List.{get_or-set_same}
 use Rattle.std.proofs.lemmas.Option.{same_Some}
 use Rattle.register.specs.ByteOrder.{order_same}
@@ -9,17 +9,17 @@ use Rattle.rosters.specs.Sound.{index}
 use Rattle.scheme.specs.Pieces.{Indexed}
 use Rattle.table.proofs.Carried.{all_look, all_put}
 use Rattle.table.proofs.Lawful.{found_exactly}
-use Rattle.model.specs.Intake.{Class, assigned, owned, stray, Taken, arrives, checks, classed, dropped, from_member, index_of, is_assigned, leads, led, received_at, rejected, sender_of, unless_contributed, unless_received, verifies, waits, with_pending, with_received}
+use Rattle.model.specs.Intake.{Class, assigned, owned, stray, Taken, arrives, classed, dropped, from_member, index_of, is_assigned, leads, led, received_at, rejected, sender_of, unless_contributed, unless_received, verifies, waits, with_pending, with_received}
 use Rattle.model.specs.State.{Phase, awaiting, cached, Rec, Sent, Shards, with_phase}
 use Rattle.model.specs.declared.answer.Reason.{Reason}
-use Rattle.model.specs.declared.answer.Reason.TheVariants.{Stranger, WrongIndex, BadAssigned}
+use Rattle.model.specs.declared.answer.Reason.TheVariants.{Stranger, WrongIndex}
 use Rattle.runs.proofs.Each.{all_append, all_weaker, all_with}
 use Rattle.runs.proofs.Entries.{by_option, number_laws, number_same}
 use Rattle.runs.proofs.Places.{index_below}
 use Rattle.runs.proofs.Records.{sent_at}
 use Rattle.runs.proofs.Tallies.{flag, flag_kept, flag_set, none_there, tally, tally_append, tally_put_new}
 use Rattle.enough.proofs.Counting.{itself}
-use Rattle.enough.proofs.Held.{Checked, GivenTo, InPhase, Pending, Sound, Waiting}
+use Rattle.enough.proofs.Held.{GivenTo, InPhase, Pending, Sound, Waiting}
 use Rattle.std.specs.Ordering.{nat_cmp}
 
 module _ (good : Indexed → Bool) (minimum : ℕ) (keys : List (List ℕ)) (own : Option ℕ) (Hand : List ℕ → Indexed → Type 0) where
@@ -56,11 +56,11 @@ module _ (good : Indexed → Bool) (minimum : ℕ) (keys : List (List ℕ)) (own
       let inside : i < length flags = omega (arith, k.long) in
       record {
         long = length-set flags i true ∙ k.long;
-        assigned = λ v j o. rw (← (mine j o)) (get_or-set_same flags i true false inside);
-        tallied = λ j. let t = k.tallied j in let b = flag_set flags i j inside off in let n = tally_append index_of j w.checked (s ∷ []) in omega arith;
+        assigned = λ v j o. grind (arith, get_or-set_same);
+        tallied = λ j. grind (arith, flag_set, tally_append);
         received = all_put nat_cmp index_of (λ x. get_or (set flags i true) x.index false ≡ true) s w.received (get_or-set_same flags i true false inside)
             (all_weaker _ (λ x. get_or (set flags i true) x.index false ≡ true) (λ x h. flag_kept flags i x.index h) w.received k.received);
-        checked = all_append (Checked good minimum keys own Hand) w.checked (s ∷ []) k.checked (record { passes = passes; key = sender; handed = handed }, tt);
+        checked = grind (arith, all_append);
         pending = k.pending;
         job = k.job;
       }
@@ -95,7 +95,7 @@ module _ (good : Indexed → Bool) (minimum : ℕ) (keys : List (List ℕ)) (own
           record {
             sound = (waits_keeps r.contributed r.verified w lost sender s k.0 off (omega arith) handed place, k.1);
             grows = λ i h. flag_kept r.contributed s.index i h;
-            gets = λ _ _. get_or-set_same r.contributed s.index true false inside;
+            gets = λ _ _. grind (arith, get_or-set_same);
             still = λ e. absurd (both_ways true e refl);
             commitment = refl;
             round = refl;
@@ -115,7 +115,7 @@ module _ (good : Indexed → Bool) (minimum : ℕ) (keys : List (List ℕ)) (own
           record {
             sound = (joins_keeps r.contributed r.verified w lost sender s k.0 off within handed passes at, k.1);
             grows = λ i h. flag_kept r.contributed s.index i h;
-            gets = λ _ _. get_or-set_same r.contributed s.index true false inside;
+            gets = λ _ _. grind (arith, get_or-set_same);
             still = λ e. absurd (both_ways true e refl);
             commitment = refl;
             round = refl;
@@ -127,17 +127,8 @@ module _ (good : Indexed → Bool) (minimum : ℕ) (keys : List (List ℕ)) (own
       before place at =
           cond_both (is_assigned own r.leader sender place s.index) assigned (cond (eqb s.index place) owned stray)
           (λ cl. Took lost sender s (with_phase (awaiting w) r) (arrives good own sender s (with_phase (awaiting w) r) (awaiting w) cl))
-          (λ is. unless_got _ (λ off.
-          cond_both r.verified (waits sender s w (with_phase (awaiting w) r)) (checks (good s) own s (with_phase (awaiting w) r)) (Took lost sender s (with_phase (awaiting w) r))
-          (λ on. waited off (by_own own refl is on off))
-          (λ _. cond_both (good s) (verifies own s (with_phase (awaiting w) r)) (rejected BadAssigned (with_phase (awaiting w) r)) (Took lost sender s (with_phase (awaiting w) r))
-          (λ passes. verified_in off passes (inside own refl is) (at_own own refl is))
-          (λ fails. unmoved (with_phase (awaiting w) r) (Some BadAssigned) k (λ _ passes. absurd (both_ways (good s) fails passes))))))
-          (λ _. cond_both (eqb s.index place) owned stray
-          (λ cl. Took lost sender s (with_phase (awaiting w) r) (arrives good own sender s (with_phase (awaiting w) r) (awaiting w) cl))
-          (λ is. unless_got _ (λ off. waited off (at ∙ ap Some (sym (eqb-true s.index place is)))))
-          (λ not. unmoved_led (with_phase (awaiting w) r) r.leader k
-          (λ here _. absurd (both_ways (eqb s.index place) not (eq-eqb s.index place (same_Some s.index place (sym here ∙ at)))))))
+          (λ is. grind (arith, unless_got, waited, by_own own refl is, verified_in, inside own refl is, at_own own refl is, unmoved))
+          (λ _. grind (arith, unless_got, waited, unmoved_led))
         where
           by_own : (o : Option ℕ) → own ≡ o → is_assigned o r.leader sender place s.index ≡ true → r.verified ≡ true → get_or r.contributed s.index false ≡ false → index sender keys ≡ Some s.index
           by_own None e is on off = at ∙ ap Some (sym (eqb-true s.index place (and_parts (leads r.leader sender) (eqb s.index place) is).1))
