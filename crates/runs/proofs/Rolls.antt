@@ -42,13 +42,16 @@ pub tries_entry : (r : Rec) → entry_of (tries r) ≡ entry_of r
 unfolding tries
 tries_entry r = refl
 
+pub advanced_entry : (i : Ingested) → entry_of (advanced i) ≡ entry_of i.rec
+advanced_entry i = grind (arith, tries_entry)
+
 module _ (limits : Limits) (m : Meaning) (roster : Roster) where
-  pub taken_entry : (keys : List (List ℕ)) (e : ℕ) (i : Ingested) (ps : List Sent) → entry_of (all_taken limits m roster keys e i ps).rec ≡ entry_of i.rec
+  taken_entry : (keys : List (List ℕ)) (e : ℕ) (i : Ingested) (ps : List Sent) → entry_of (all_taken limits m roster keys e i ps).rec ≡ entry_of i.rec
   taken_entry keys e i [] = refl
   taken_entry keys e i (p ∷ ps) = grind (arith, intake_entry, taken_entry keys e (taken limits m roster keys e i p) ps)
 
-pub advanced_entry : (i : Ingested) → entry_of (advanced i) ≡ entry_of i.rec
-advanced_entry i = grind (arith, tries_entry)
+  pub drawn_entry : (keys : List (List ℕ)) (x : Rec) (ps : List Sent) → entry_of (advanced (all_taken limits m roster keys x.round.epoch.0 (began x) ps)) ≡ entry_of x
+  drawn_entry keys x ps = advanced_entry (all_taken limits m roster keys x.round.epoch.0 (began x) ps) ∙ taken_entry keys x.round.epoch.0 (began x) ps
 
 -- what is found among the entries is the entry of the record that is found
 roll_look : (c : List ℕ) (rs : List Rec) → on_roll c (map entry_of rs) ≡ option_map entry_of (look order filed_under c rs)
@@ -97,32 +100,29 @@ module _ (limits : Limits) (m : Meaning) (roster : Roster) (s : State) (up : Asc
         within = Entries.trimmed-length round_of filed_under limits.window (put order filed_under x s.records) rose (omega arith);
       }
 
+  -- box intake for x: what is shown of all records with its commitment and round is shown of the call
+  drawing : (store : Rec → List Rec) (x : Rec) →
+      ((ps : List Peer) (rs : List Report) (a : Option Action) (y : Rec) → entry_of y ≡ entry_of x → Announcing (record { state = record { records = store y; peers = ps }; answer = answered Held rs a })) →
+      Announcing (box_intake limits m roster store x s)
+  drawing store x shows =
+      box_ways limits m roster s Announcing store x
+      (λ _. shows s.peers [] None x refl)
+      (λ keys _.
+      let ps = all_drawn (wants limits m roster keys x) s.peers in
+      let i = all_taken limits m roster keys x.round.epoch.0 (began x) ps in
+      shows (all_left (wants limits m roster keys x) s.peers) i.reports i.action (advanced i) (drawn_entry limits m roster keys x ps))
+
   announcing : AnnouncedWays limits m roster s Announcing c round
   announcing = record {
     still = still;
     stood = λ o r held at _. stood o s.peers [] None r (observes limits m roster round r) held at refl;
-    led = λ leader r at _ _. drawing (with_leader (Some leader) (observes limits m roster round r)) r at refl;
-    again = λ r w at _ _. drawing (observes limits m roster round r) r at refl;
-    new = λ leader none _ _. entering (new_record c round leader) none refl;
+    led = λ leader r at _ _. again (with_leader (Some leader) (observes limits m roster round r)) r at refl;
+    again = λ r w at _ _. again (observes limits m roster round r) r at refl;
+    new = λ leader none _ _. drawing (λ y. entered y s.records) (new_record c round leader) (λ ps rs a y entry. admitted Held ps rs a y refl none entry);
   }
     where
-      drawing : (x r : Rec) → record_of c s ≡ Some r → entry_of x ≡ raised round (entry_of r) → Announcing (box_intake limits m roster (λ y. replaced y s.records) x s)
-      drawing x r at same =
-          box_ways limits m roster s Announcing (λ y. replaced y s.records) x
-          (λ _. stood Held s.peers [] None r x refl at same)
-          (λ keys _.
-          let i = all_taken limits m roster keys x.round.epoch.0 (began x) (all_drawn (wants limits m roster keys x) s.peers) in
-          stood Held (all_left (wants limits m roster keys x) s.peers) i.reports i.action r (advanced i) refl at
-          (advanced_entry i ∙ taken_entry limits m roster keys x.round.epoch.0 (began x) (all_drawn (wants limits m roster keys x) s.peers) ∙ same))
-
-      entering : (x : Rec) → record_of c s ≡ None → entry_of x ≡ record { commitment = c; round = round } → Announcing (box_intake limits m roster (λ y. entered y s.records) x s)
-      entering x at same =
-          box_ways limits m roster s Announcing (λ y. entered y s.records) x
-          (λ _. admitted Held s.peers [] None x refl at same)
-          (λ keys _.
-          let i = all_taken limits m roster keys x.round.epoch.0 (began x) (all_drawn (wants limits m roster keys x) s.peers) in
-          admitted Held (all_left (wants limits m roster keys x) s.peers) i.reports i.action (advanced i) refl at
-          (advanced_entry i ∙ taken_entry limits m roster keys x.round.epoch.0 (began x) (all_drawn (wants limits m roster keys x) s.peers) ∙ same))
+      again : (x r : Rec) → record_of c s ≡ Some r → entry_of x ≡ raised round (entry_of r) → Announcing (box_intake limits m roster (λ y. replaced y s.records) x s)
+      again x r at same = drawing (λ y. replaced y s.records) x (λ ps rs a y entry. stood Held ps rs a r y refl at (entry ∙ same))
 
   discovered : (leader : List ℕ) → Announcing (discovery_of limits m roster c leader round s)
   discovered leader = discovery_ways limits m roster s Announcing c round announcing leader
