@@ -9,8 +9,8 @@ use Rattle.rosters.specs.Sound.{index}
 use Rattle.scheme.specs.Pieces.{Indexed}
 use Rattle.table.proofs.Carried.{all_look, all_put}
 use Rattle.table.proofs.Lawful.{found_exactly}
-use Rattle.model.specs.Intake.{Class, assigned, owned, stray, Taken, arrives, classed, dropped, from_member, index_of, is_assigned, leads, led, received_at, rejected, sender_of, unless_contributed, unless_received, verifies, waits, with_pending, with_received}
-use Rattle.model.specs.State.{Phase, awaiting, cached, Rec, Sent, Shards, with_phase}
+use Rattle.model.specs.Intake.{Action, Class, acts, assigned, contributes, owned, stray, Taken, arrives, classed, dropped, from_member, index_of, is_assigned, leads, led, received_at, rejected, sender_of, unless_contributed, unless_received, verifies, waits, with_pending, with_received}
+use Rattle.model.specs.State.{Phase, awaiting, cached, Rec, Sent, Shards, with_contribution, with_phase}
 use Rattle.model.specs.declared.answer.Reason.{Reason}
 use Rattle.model.specs.declared.answer.Reason.TheVariants.{Stranger, WrongIndex}
 use Rattle.runs.proofs.Each.{all_append, all_weaker, all_with}
@@ -88,19 +88,23 @@ module _ (good : Indexed → Bool) (minimum : ℕ) (keys : List (List ℕ)) (own
     unmoved_led r l k gets = grind arith
 
     module _ (r : Rec) (w : Shards) (k : InPhase good minimum keys own Hand r.contributed r.verified r.completions lost (awaiting w)) where
+      -- the index contributes
+      gains : (v : Shards) (verified : Bool) (action : Option Action) → Sound good minimum keys own Hand lost (with_contribution (contributes s r) verified (awaiting v) r) → s.index < 64 →
+          Took lost sender s (with_phase (awaiting w) r) (record { rec = with_contribution (contributes s r) verified (awaiting v) r; report = None; action = action; gained = true })
+      gains v verified action sound within = record {
+        sound = sound;
+        grows = λ i h. flag_kept r.contributed s.index i h;
+        gets = λ _ _. get_or-set_same r.contributed s.index true false (omega (arith, k.0.long));
+        still = λ e. absurd (both_ways true e refl);
+        commitment = refl;
+        round = refl;
+        leader = refl;
+      }
+
       waited : get_or r.contributed s.index false ≡ false → index sender keys ≡ Some s.index → Took lost sender s (with_phase (awaiting w) r) (waits sender s w (with_phase (awaiting w) r))
       waited off place =
-          let below = index_below sender keys s.index place in
-          let inside : s.index < length r.contributed = omega (arith, k.0.long) in
-          record {
-            sound = (waits_keeps r.contributed r.verified w lost sender s k.0 off (omega arith) handed place, k.1);
-            grows = λ i h. flag_kept r.contributed s.index i h;
-            gets = λ _ _. grind (arith, get_or-set_same);
-            still = λ e. absurd (both_ways true e refl);
-            commitment = refl;
-            round = refl;
-            leader = refl;
-          }
+          let within : s.index < 64 = let b = index_below sender keys s.index place in omega arith in
+          gains (with_pending (record { sender = sender; shard = s }) w) r.verified None (waits_keeps r.contributed r.verified w lost sender s k.0 off within handed place, k.1) within
 
       -- a received index has contributed
       unless_got : (next : Taken) → (get_or r.contributed s.index false ≡ false → Took lost sender s (with_phase (awaiting w) r) next) →
@@ -111,38 +115,24 @@ module _ (good : Indexed → Bool) (minimum : ℕ) (keys : List (List ℕ)) (own
       verified_in : get_or r.contributed s.index false ≡ false → good s ≡ true → s.index < 64 → ((i : ℕ) → own ≡ Some i → s.index ≡ i) →
           Took lost sender s (with_phase (awaiting w) r) (verifies own s (with_phase (awaiting w) r))
       verified_in off passes within at =
-          let inside : s.index < length r.contributed = omega (arith, k.0.long) in
-          record {
-            sound = (joins_keeps r.contributed r.verified w lost sender s k.0 off within handed passes at, k.1);
-            grows = λ i h. flag_kept r.contributed s.index i h;
-            gets = λ _ _. grind (arith, get_or-set_same);
-            still = λ e. absurd (both_ways true e refl);
-            commitment = refl;
-            round = refl;
-            leader = refl;
-          }
+          gains (with_received s (w.checked ++ s ∷ []) w) true (Some (acts own s)) (joins_keeps r.contributed r.verified w lost sender s k.0 off within handed passes at, k.1) within
 
       before : (place : ℕ) → index sender keys ≡ Some place →
           Took lost sender s (with_phase (awaiting w) r) (arrives good own sender s (with_phase (awaiting w) r) (awaiting w) (classed own r.leader sender place s.index))
       before place at =
           cond_both (is_assigned own r.leader sender place s.index) assigned (cond (eqb s.index place) owned stray)
           (λ cl. Took lost sender s (with_phase (awaiting w) r) (arrives good own sender s (with_phase (awaiting w) r) (awaiting w) cl))
-          (λ is. grind (arith, unless_got, waited, by_own own refl is, verified_in, inside own refl is, at_own own refl is, unmoved))
+          (λ is. grind (arith, unless_got, waited, by_own is, verified_in, inside is, at_own is, unmoved))
           (λ _. grind (arith, unless_got, waited, unmoved_led))
         where
-          by_own : (o : Option ℕ) → own ≡ o → is_assigned o r.leader sender place s.index ≡ true → r.verified ≡ true → get_or r.contributed s.index false ≡ false → index sender keys ≡ Some s.index
-          by_own None e is on off = at ∙ ap Some (sym (eqb-true s.index place (and_parts (leads r.leader sender) (eqb s.index place) is).1))
-          by_own (Some i) e is on off =
-              let same = eqb-true s.index i is in
-              absurd (both_ways (get_or r.contributed s.index false) off (rw same (k.0.assigned on i e)))
+          by_own : is_assigned own r.leader sender place s.index ≡ true → r.verified ≡ true → get_or r.contributed s.index false ≡ false → index sender keys ≡ Some s.index
+          by_own is on off = grind (arith, k.0.assigned on)
 
-          inside : (o : Option ℕ) → own ≡ o → is_assigned o r.leader sender place s.index ≡ true → s.index < 64
-          inside None e is = let same = eqb-true s.index place (and_parts (leads r.leader sender) (eqb s.index place) is).1 in let b = index_below sender keys place at in omega arith
-          inside (Some i) e is = let same = eqb-true s.index i is in let b = mine i e in omega arith
+          inside : is_assigned own r.leader sender place s.index ≡ true → s.index < 64
+          inside is = grind (arith, index_below, mine)
 
-          at_own : (o : Option ℕ) → own ≡ o → is_assigned o r.leader sender place s.index ≡ true → (i : ℕ) → own ≡ Some i → s.index ≡ i
-          at_own None e is i f = cc
-          at_own (Some j) e is i f = eqb-true s.index j is ∙ same_Some j i (sym e ∙ f)
+          at_own : is_assigned own r.leader sender place s.index ≡ true → (i : ℕ) → own ≡ Some i → s.index ≡ i
+          at_own is i f = grind arith
 
     -- behind the block nothing is asked of a record any more
     after : (r : Rec) (blob : List ℕ) → ((i : ℕ) → tally itself i lost ≤ 1) → (cl : Class) →
