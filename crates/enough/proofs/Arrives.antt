@@ -102,4 +102,4 @@ module _ (limits : Limits) (m : Meaning) (a : Assignment) (c : List ℕ) (ep : �
       })
     where
       quiet : (answer : Answer) → Silent limits m a c ep Hand roster (shard d peer x rooms) s es answer
-      quiet answer = record { ends = λ is. absurd is; brings = λ k y counts brings. other brings.0 }
+      quiet answer = grind arith

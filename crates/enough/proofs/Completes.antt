@@ -49,7 +49,7 @@ module _ (limits : Limits) (m : Meaning) (a : Assignment) (c : List ℕ) (ep : �
   pub completion_here : Fine limits m a c ep Hand roster (completion c rooms) s es (completion_of limits m roster c s)
   completion_here =
       completion_ways limits m roster s (Fine limits m a c ep Hand roster (completion c rooms) s es) c
-      (elsewhere limits m a c ep Hand roster (completion c rooms) s es (record { state = s; answer = refused NoJob }) (record { ends = λ _ n. tt; brings = λ k y counts brings. absurd brings }) boxes up refl)
+      (elsewhere limits m a c ep Hand roster (completion c rooms) s es (record { state = s; answer = refused NoJob }) (grind arith) boxes up refl)
       (λ r j at out.
       let named = found_key filed_under c s.records r at in
       ending r j (completes m limits.blob j r) at (entries r j named)
@@ -82,4 +82,4 @@ module _ (limits : Limits) (m : Meaning) (a : Assignment) (c : List ℕ) (ep : �
       }))
     where
       quiet : (answer : Answer) → Silent limits m a c ep Hand roster (completion d rooms) s es answer
-      quiet answer = record { ends = λ is. absurd (other is); brings = λ k y counts brings. absurd brings }
+      quiet answer = grind arith

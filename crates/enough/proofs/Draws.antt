@@ -51,9 +51,8 @@ module _ (limits : Limits) (m : Meaning) (a : Assignment) (c : List ℕ) (e : �
     unfolding intake
     took sender s r handed same k =
         let t = taken_in good_here (minimum_of c) (a.keys e) (a.own e) Hand knows.few knows.mine lost sender s handed r k in
-        subst (λ l. Took good_here (minimum_of c) (a.keys e) (a.own e) Hand lost sender s r (from_member (good_for m limits.blob r.commitment) (roster.own e) sender s r (index sender l))) (sym knows.keys)
-        (subst (λ o. Took good_here (minimum_of c) (a.keys e) (a.own e) Hand lost sender s r (from_member (good_for m limits.blob r.commitment) o sender s r (index sender (a.keys e)))) (sym knows.own)
-        (subst (λ d. Took good_here (minimum_of c) (a.keys e) (a.own e) Hand lost sender s r (from_member (good_for m limits.blob d) (a.own e) sender s r (index sender (a.keys e)))) (sym same) t))
+        rw (knows.keys, knows.own)
+        (subst (λ d. Took good_here (minimum_of c) (a.keys e) (a.own e) Hand lost sender s r (from_member (good_for m limits.blob d) (a.own e) sender s r (index sender (a.keys e)))) (sym same) t)
 
     row_on : (r : Rec) (i : Ingested) (p : Sent) → Hand p.sender p.shard → Row lost r i → Row lost r (taken limits m roster ks e i p)
     row_on r i p handed row =

@@ -1,5 +1,5 @@
 -- A call that leaves the record of a commitment alone, replaces it, or lets one in; and box intake for it.
-use Rattle.std.proofs.Common.{◌≡◌, ℕ, true, ◌⊎◌, List, [], ◌∷◌, is_some, Some, None, Option, sym, ap, ◌∙◌, subst, inl, inr, ⊎_elim, arith}
+use Rattle.std.proofs.Common.{◌≡◌, ℕ, true, List, [], ◌∷◌, is_some, Some, None, Option, sym, ap, ◌∙◌, subst, ⊎_elim, arith}
 use Rattle.std.proofs.lemmas.Slice.Eq.{bytes_eq-Decides}
 use Rattle.std.proofs.lemmas.Bool.{cases_Bool, iff_false}
 use Rattle.std.proofs.lemmas.Option.{same_Some}
@@ -23,9 +23,10 @@ use Rattle.enough.proofs.Draws.{Grown, SoundHere, advanced_grown, good_here, kno
 use Rattle.enough.proofs.Held.{GivenTo, Settled}
 use Rattle.enough.proofs.Live.{Live}
 
-pub cases_same : (x y : List ℕ) → (x ≡ y) ⊎ (x ≡ y → ⊥)
-cases_same x y =
-    ⊎_elim (λ t. inl ((bytes_eq-Decides x y).0 t)) (λ f. inr (iff_false (bytes_eq-Decides x y) f)) (cases_Bool (bytes_eq x y))
+-- a call is for the commitment c or for another
+pub by_commitment : (P : List ℕ → Type 0) (d c : List ℕ) → P c → ((d ≡ c → ⊥) → P d) → P d
+by_commitment P d c here there =
+    ⊎_elim (λ t. subst P (sym ((bytes_eq-Decides d c).0 t)) here) (λ f. there (iff_false (bytes_eq-Decides d c) f)) (cases_Bool (bytes_eq d c))
 
 -- an entry of a box for the commitment was handed in by the box's peer
 abbrev pub For : List ℕ → (List ℕ → Indexed → Type 0) → List ℕ → List ℕ → Indexed → Type 0

@@ -1,27 +1,28 @@
 -- Every history that leads to a state: what is true of the record of a commitment and of the events since its admission.
-use Rattle.std.proofs.Common.{◌≡◌, ℕ, Bool, true, false, cond, ◌&&◌, List, [], ◌∷◌, is_some, Some, None, Option, sym, refl, subst, inr, ⊎_elim, arith}
+use Rattle.std.proofs.Common.{◌≡◌, ℕ, Bool, true, false, cond, ◌&&◌, List, [], ◌∷◌, is_some, Some, None, Option, sym, refl, subst, inr, arith}
 use Rattle.std.proofs.lemmas.Bool.{and_parts}
 use Rattle.std.specs.Option.{option_map}
 use Rattle.std.specs.List.{AllByRecursion}
 use Rattle.register.specs.Order.{order}
+use Rattle.register.specs.declared.counters.Round.{Round}
 use Rattle.scheme.specs.Pieces.{Indexed}
 use Rattle.table.specs.Laws.{Ascends}
-use Rattle.model.specs.Calls.{Answer, Call, discovery, notarization, shard, completion, peer_change, block_look_up, verified_look_up, is_commitment, is_key, is_verified, phase_of, told, turned_down, unless}
+use Rattle.model.specs.Calls.{Answer, Call, discovery, notarization, shard, completion, peer_change, block_look_up, verified_look_up, is_commitment, is_key, phase_of, turned_down, unless}
 use Rattle.model.specs.Histories.{Agrees, Assignment, Brings, Counts, Event, HandedIn, Leads, since}
 use Rattle.model.specs.Meaning.{Meaning, Roster}
 use Rattle.model.specs.State.{Limits, Phase, Rec, State, filed_under, record_of}
-use Rattle.model.specs.Steps.{Step, block_given, done, completion_of, discovery_of, notarization_of, shard_of, step}
+use Rattle.model.specs.Steps.{Step, block_given, done, completion_of, discovery_of, notarization_of, shard_of, step, within_window}
 use Rattle.model.specs.declared.answer.Refusal.{Refusal}
 use Rattle.runs.proofs.Boxes.{renewed-filled}
 use Rattle.runs.proofs.Entries.{by_option}
 use Rattle.runs.proofs.Rolls.{records_ascend, roll_record}
-use Rattle.runs.proofs.Ways.{discovery_ways, notarization_ways, shard_ways}
+use Rattle.runs.proofs.Ways.{AnnouncedWays, discovery_ways, notarization_ways, shard_ways}
 use Rattle.runs.specs.Rolls.{entry_of}
 use Rattle.enough.proofs.Announces.{announced_here, announced_there, trimmed_fine}
 use Rattle.enough.proofs.Arrives.{shard_here, shard_there}
 use Rattle.enough.proofs.Completes.{completion_here, completion_there}
 use Rattle.enough.proofs.Live.{Live}
-use Rattle.enough.proofs.Moves.{Fine, For, Moved, OwnBoxes, Silent, cases_same, elsewhere}
+use Rattle.enough.proofs.Moves.{Fine, For, Moved, OwnBoxes, Silent, by_commitment, elsewhere}
 
 -- a test that was passed
 passed : (b : Bool) (r : Refusal) (o : Option Refusal) → unless b r o ≡ None → b ≡ true
@@ -39,46 +40,33 @@ module _ (limits : Limits) (m : Meaning) (a : Assignment) (c : List ℕ) (ep : �
     looked : (d : List ℕ) (room : ℕ) (o : Option Phase) → FineOf (block_look_up d room) (block_given limits m roster s o)
     looked d room o = grind arith
 
+    -- discovery and notarization
+    announcing : (call : List ℕ → Call) (t : List ℕ → Step) (round : Round) → ((d : List ℕ) (answer : Answer) → Silent limits m a c ep Hand roster (call d) s es answer) →
+        ((d : List ℕ) → AnnouncedWays limits m roster s (FineOf (call d)) d round → FineOf (call d) (t d)) → (d : List ℕ) → is_commitment d ≡ true → FineOf (call d) (within_window limits m roster (t d))
+    announcing call t round quiet ways d proper =
+        trimmed_fine limits m a c ep Hand roster (call d) s es agrees boxes up (quiet d) (t d)
+        (by_commitment (λ d. is_commitment d ≡ true → FineOf (call d) (t d)) d c
+        (λ proper. ways c (announced_here limits m a c ep Hand roster (call c) s es agrees boxes up (quiet c) round proper))
+        (λ other _. ways d (announced_there limits m a c ep Hand roster (call d) s es agrees boxes up (quiet d) round d other)) proper)
+
     done_fine : (call : Call) → turned_down limits s call ≡ None → (Counts (done limits m roster s call).answer → (k : List ℕ) (x : Indexed) → Brings c k x call → Hand k x) → FineOf call (done limits m roster s call)
     done_fine (discovery d leader round rooms) none handed =
-        trimmed_fine limits m a c ep Hand roster (discovery d leader round rooms) s es agrees boxes up quiet (discovery_of limits m roster d leader round s)
-        (⊎_elim
-        (λ same. subst (λ d. turned_down limits s (discovery d leader round rooms) ≡ None → FineOf (discovery d leader round rooms) (discovery_of limits m roster d leader round s)) (sym same)
-        (λ none. discovery_ways limits m roster s (FineOf (discovery c leader round rooms)) c round
-        (announced_here limits m a c ep Hand roster (discovery c leader round rooms) s es agrees boxes up (λ answer. grind arith) round (and_parts (is_commitment c) (is_key leader) (passed (is_commitment c && is_key leader) _ _ none)).0) leader) none)
-        (λ other. discovery_ways limits m roster s (FineOf (discovery d leader round rooms)) d round (announced_there limits m a c ep Hand roster (discovery d leader round rooms) s es agrees boxes up quiet round d other) leader)
-        (cases_same d c))
-      where
-        quiet : (answer : Answer) → Silent limits m a c ep Hand roster (discovery d leader round rooms) s es answer
-        quiet answer = record { ends = λ is. absurd is; brings = λ k y counts brings. absurd brings }
+        announcing (λ d. discovery d leader round rooms) (λ d. discovery_of limits m roster d leader round s) round (λ d answer. grind arith)
+        (λ d ways. discovery_ways limits m roster s (FineOf (discovery d leader round rooms)) d round ways leader) d (and_parts (is_commitment d) (is_key leader) (passed (is_commitment d && is_key leader) _ _ none)).0
     done_fine (notarization d round rooms) none handed =
-        trimmed_fine limits m a c ep Hand roster (notarization d round rooms) s es agrees boxes up quiet (notarization_of limits m roster d round s)
-        (⊎_elim
-        (λ same. subst (λ d. turned_down limits s (notarization d round rooms) ≡ None → FineOf (notarization d round rooms) (notarization_of limits m roster d round s)) (sym same)
-        (λ none. notarization_ways limits m roster s (FineOf (notarization c round rooms)) c round
-        (announced_here limits m a c ep Hand roster (notarization c round rooms) s es agrees boxes up (λ answer. grind arith) round (passed (is_commitment c) _ _ none))) none)
-        (λ other. notarization_ways limits m roster s (FineOf (notarization d round rooms)) d round (announced_there limits m a c ep Hand roster (notarization d round rooms) s es agrees boxes up quiet round d other))
-        (cases_same d c))
-      where
-        quiet : (answer : Answer) → Silent limits m a c ep Hand roster (notarization d round rooms) s es answer
-        quiet answer = record { ends = λ is. absurd is; brings = λ k y counts brings. absurd brings }
+        announcing (λ d. notarization d round rooms) (λ d. notarization_of limits m roster d round s) round (λ d answer. grind arith)
+        (λ d ways. notarization_ways limits m roster s (FineOf (notarization d round rooms)) d round ways) d (passed (is_commitment d) _ _ none)
     done_fine (shard d peer x rooms) none handed =
-        ⊎_elim
-        (λ same.
-        let hand : Hand peer x = grind (arith, counted) in
-        subst (λ d. FineOf (shard d peer x rooms) (shard_of limits m roster d peer x s)) (sym same) (shard_here limits m a c ep Hand roster s es agrees boxes up peer x rooms hand))
-        (λ other. shard_there limits m a c ep Hand roster s es agrees boxes up peer x rooms d other)
-        (cases_same d c)
+        by_commitment (λ d. (Counts (shard_of limits m roster d peer x s).answer → (k : List ℕ) (y : Indexed) → Brings c k y (shard d peer x rooms) → Hand k y) → FineOf (shard d peer x rooms) (shard_of limits m roster d peer x s)) d c
+        (λ handed. shard_here limits m a c ep Hand roster s es agrees boxes up peer x rooms (handed (counted c peer x) peer x (refl, refl, refl)))
+        (λ other _. shard_there limits m a c ep Hand roster s es agrees boxes up peer x rooms d other) handed
     done_fine (completion d rooms) none handed =
-        ⊎_elim
-        (λ same. subst (λ d. FineOf (completion d rooms) (completion_of limits m roster d s)) (sym same) (completion_here limits m a c ep Hand roster s es boxes up rooms))
-        (λ other. completion_there limits m a c ep Hand roster s es boxes up rooms d other)
-        (cases_same d c)
+        by_commitment (λ d. FineOf (completion d rooms) (completion_of limits m roster d s)) d c
+        (completion_here limits m a c ep Hand roster s es boxes up rooms) (completion_there limits m a c ep Hand roster s es boxes up rooms d)
     done_fine (peer_change ks) none handed =
-        elsewhere limits m a c ep Hand roster (peer_change ks) s es (done limits m roster s (peer_change ks)) (record { ends = λ is. absurd is; brings = λ k y counts brings. absurd brings }) (renewed-filled (For c Hand) ks s.peers boxes) up refl
+        elsewhere limits m a c ep Hand roster (peer_change ks) s es (done limits m roster s (peer_change ks)) (grind arith) (renewed-filled (For c Hand) ks s.peers boxes) up refl
     done_fine (block_look_up d room) none handed = looked d room (phase_of (record_of d s))
-    done_fine (verified_look_up d) none handed =
-        elsewhere limits m a c ep Hand roster (verified_look_up d) s es (record { state = s; answer = told (is_verified (record_of d s)) }) (record { ends = λ is. absurd is; brings = λ k y counts brings. absurd brings }) boxes up refl
+    done_fine (verified_look_up d) none handed = grind arith
 
     step_fine : (call : Call) → (Counts (step limits m roster call s).answer → (k : List ℕ) (x : Indexed) → Brings c k x call → Hand k x) → FineOf call (step limits m roster call s)
     unfolding step

@@ -1,6 +1,6 @@
 -- Intake keeps a record sound, and a member's good shard at its own index has then contributed there.
 use Rattle.std.proofs.Common.{◌≡◌, ℕ, ◌<◌, ◌≤◌, Bool, true, false, cond, eqb, List, [], ◌∷◌, ◌++◌, length, get_or, set, Some, None, Option, Equal, sym, refl, ap, ◌∙◌, arith, length-set}
-use Rattle.std.proofs.lemmas.Bool.{and_parts, both_ways, cond_both, eqb-true}
+use Rattle.std.proofs.lemmas.Bool.{both_ways, cond_both}
 use Rattle.std.proofs.lemmas.List.{get_or-set_same}
 use Rattle.std.proofs.lemmas.Option.{same_Some}
 use Rattle.register.specs.ByteOrder.{order_same}
@@ -9,7 +9,7 @@ use Rattle.rosters.specs.Sound.{index}
 use Rattle.scheme.specs.Pieces.{Indexed}
 use Rattle.table.proofs.Carried.{all_look, all_put}
 use Rattle.table.proofs.Lawful.{found_exactly}
-use Rattle.model.specs.Intake.{Action, Class, acts, assigned, contributes, owned, stray, Taken, arrives, classed, dropped, from_member, index_of, is_assigned, leads, led, received_at, rejected, sender_of, unless_contributed, unless_received, verifies, waits, with_pending, with_received}
+use Rattle.model.specs.Intake.{Action, Class, acts, assigned, contributes, owned, stray, Taken, arrives, classed, dropped, from_member, index_of, is_assigned, led, received_at, rejected, sender_of, unless_contributed, unless_received, verifies, waits, with_pending, with_received}
 use Rattle.model.specs.State.{Phase, awaiting, cached, Rec, Sent, Shards, with_contribution, with_phase}
 use Rattle.model.specs.declared.answer.Reason.{Reason}
 use Rattle.model.specs.declared.answer.Reason.TheVariants.{Stranger, WrongIndex}
@@ -72,8 +72,6 @@ module _ (good : Indexed → Bool) (minimum : ℕ) (keys : List (List ℕ)) (own
     pub gets : index sender keys ≡ Some s.index → good s ≡ true → GivenTo t.rec s.index
     pub still : t.gained ≡ false → t.rec ≡ r
     pub commitment : t.rec.commitment ≡ r.commitment
-    pub round : t.rec.round ≡ r.round
-    pub leader : t.rec.leader ≡ r.leader
 
   module _ (few : length keys ≤ 64) (mine : (i : ℕ) → own ≡ Some i → i < length keys) (lost : List ℕ) (sender : List ℕ) (s : Indexed) (handed : Hand sender s) where
     unmoved : (r : Rec) (report : Option Reason) → Sound good minimum keys own Hand lost r →
@@ -97,8 +95,6 @@ module _ (good : Indexed → Bool) (minimum : ℕ) (keys : List (List ℕ)) (own
         gets = λ _ _. get_or-set_same r.contributed s.index true false (omega (arith, k.0.long));
         still = λ e. absurd (both_ways true e refl);
         commitment = refl;
-        round = refl;
-        leader = refl;
       }
 
       waited : get_or r.contributed s.index false ≡ false → index sender keys ≡ Some s.index → Took lost sender s (with_phase (awaiting w) r) (waits sender s w (with_phase (awaiting w) r))
