@@ -8,9 +8,9 @@ use Rattle.scheme.specs.Pieces.{Indexed}
 use Rattle.table.specs.Laws.{Ascends}
 use Rattle.model.specs.Calls.{Answer, answered, Call, shard, Rooms}
 use Rattle.model.specs.Histories.{Agrees, Assignment, Event}
-use Rattle.model.specs.Jobs.{tried_in, tries}
+use Rattle.model.specs.Jobs.{tries}
 use Rattle.model.specs.Meaning.{Meaning, Roster}
-use Rattle.model.specs.State.{Limits, Phase, awaiting, cached, Rec, State, filed_under, record_of}
+use Rattle.model.specs.State.{Limits, Phase, Rec, State, filed_under, record_of}
 use Rattle.model.specs.Steps.{Ingested, Step, advanced, began, boxes_shard, by_phase, in_epoch, known_shard, shard_by, shard_of, stays, taken, takes_shard, too_early}
 use Rattle.model.specs.declared.answer.Outcome.TheVariants.{Ignored, Gain, NoGain}
 use Rattle.runs.proofs.Boxes.{boxed-filled}
@@ -21,10 +21,6 @@ use Rattle.enough.proofs.Draws.{Grown, advanced_grown, good_here, known, row_all
 use Rattle.enough.proofs.Held.{Given, GivenTo}
 use Rattle.enough.proofs.Live.{next}
 use Rattle.enough.proofs.Moves.{Fine, OwnBoxes, Silent, elsewhere, event, placed, placed_other}
-
-tried_gives : (minimum : ℕ) (flags : List Bool) (i : ℕ) (ph : Phase) → Given flags i ph → Given flags i (tried_in minimum ph)
-tried_gives minimum flags i (awaiting w) h = h
-tried_gives minimum flags i (cached blob) h = h
 
 advanced-gives : (i : Ingested) (n : ℕ) → GivenTo i.rec n → GivenTo (advanced i) n
 unfolding tries

@@ -25,7 +25,7 @@ use Rattle.runs.proofs.Records.{sent_at}
 use Rattle.runs.proofs.Tallies.{distinct, flag_most, tally, tally_append, tally_map}
 use Rattle.enough.proofs.Counting.{counted, covered, crowded, itself, once_each}
 use Rattle.enough.proofs.Ends.{good_checked, sorted_out}
-use Rattle.enough.proofs.Held.{Checked, Given, GivenTo, InPhase, Jobbed, Lost, Settled, Waiting, few_with}
+use Rattle.enough.proofs.Held.{Given, GivenTo, InPhase, Jobbed, Lost, Settled, Waiting, few_with}
 use Rattle.enough.proofs.Live.{Live, ended_above_more}
 use Rattle.enough.proofs.Members.{own_place}
 use Rattle.enough.proofs.Since.{standing}
@@ -46,9 +46,6 @@ module _ (limits : Limits) (m : Meaning) (a : Assignment) (h : List Event) (c : 
 
   abbrev Hands : ℕ → Type 0
   Hands = HandsIn limits m a h c keys
-
-  abbrev CheckedHere : Indexed → Type 0
-  CheckedHere = Checked good (minimum_of c) keys own Hand
 
   abbrev LiveHere : Rec → Type 0
   LiveHere = Live limits m a c entry.round.epoch.0 Hand (since limits.window c h)

@@ -1,5 +1,5 @@
 -- What intake and a completion can come to, each with what led there.
-use Rattle.std.proofs.Common.{◌≡◌, ℕ, suc, ◌<◌, ◌≤◌, true, false, ◌⊎◌, List, length, get_or, Some, None, Ok, Err, Option, refl, arith}
+use Rattle.std.proofs.Common.{◌≡◌, ℕ, suc, ◌<◌, ◌≤◌, true, false, ◌⊎◌, List, length, get_or, Some, None, Ok, Err, Option, arith}
 use Rattle.std.specs.Str.{bytes_eq}
 use Rattle.block.specs.declared.kind.Reading.{Reading}
 use Rattle.reconstruct.specs.declared.error.Error.{Error}
@@ -8,13 +8,8 @@ use Rattle.scheme.specs.Pieces.{Indexed}
 use Rattle.model.specs.Intake.{assigned, owned, stray, Taken, classed, dropped, intake, received_at, rejected, verifies, waits}
 use Rattle.model.specs.Jobs.{Ended, completes, decoded, numbered, passing, shortened}
 use Rattle.model.specs.Meaning.{Meaning, good_for, minimum_of, opened_for, rebuilt_for}
-use Rattle.model.specs.State.{Job, Phase, awaiting, cached, Rec, Shards}
+use Rattle.model.specs.State.{Job, awaiting, Rec, Shards}
 use Rattle.model.specs.declared.answer.Reason.TheVariants.{Stranger, WrongIndex, Equivocation, BadAssigned}
-
--- what holds of a phase, and of a class, from each of their forms
-pub by_phases : (P : Phase → Type 0) (p : Phase) → ((w : Shards) → p ≡ awaiting w → P (awaiting w)) → ((blob : List ℕ) → p ≡ cached blob → P (cached blob)) → P p
-by_phases P (awaiting w) a c = a w refl
-by_phases P (cached blob) a c = c blob refl
 
 -- whatever each way of intake leaves is left by intake
 module _ (m : Meaning) (limit : ℕ) (keys : List (List ℕ)) (own : Option ℕ) (sender : List ℕ) (s : Indexed) (r : Rec) (Q : Taken → Type 0) where

@@ -1,14 +1,10 @@
 -- Where keys stand among members, and what the class of a shard says of its index.
-use Rattle.std.proofs.Common.{◌≡◌, ℕ, ◌<◌, Bool, true, false, T, List, [], ◌∷◌, length, Some, None, Option, refl, arith}
+use Rattle.std.proofs.Common.{◌≡◌, ℕ, ◌<◌, List, [], ◌∷◌, length, Some, None, Option, arith}
 use Rattle.std.proofs.lemmas.Grind.{common_steps}
 use Rattle.register.specs.ByteOrder.{order_same}
 use Rattle.rosters.specs.Roster.{Fair}
 use Rattle.rosters.specs.Sound.{index}
-use Rattle.model.specs.Intake.{assigned, owned, stray, classed}
-
-pub holds : (b : Bool) → T b → b ≡ true
-holds true h = refl
-holds false h = absurd h
+use Rattle.model.specs.Intake.{assigned, stray, classed}
 
 -- a member's place is below the number of members
 pub index_below : (k : List ℕ) (ks : List (List ℕ)) (i : ℕ) → index k ks ≡ Some i → i < length ks
@@ -31,12 +27,6 @@ module _ (leader : Option (List ℕ)) (sender : List ℕ) (place i : ℕ) (own :
 
   pub assigned_without : classed own leader sender place i ≡ assigned → own ≡ None → i ≡ place
   assigned_without class none = grind arith
-
-  pub owned_at : classed own leader sender place i ≡ owned → i ≡ place
-  owned_at class = grind arith
-
-  pub owned_not_own : classed own leader sender place i ≡ owned → own ≡ Some i → ⊥
-  owned_not_own class is = grind arith
 
   pub stray_not_own : classed own leader sender place i ≡ stray → own ≡ Some i → ⊥
   stray_not_own class is = grind arith
