@@ -48,28 +48,19 @@ module _ (limits : Limits) (m : Meaning) (a : Assignment) (h : List Event) (k : 
         drops = tt;
         stranger = λ none same. both_ways (is_some (index k (a.keys e))) (ap is_some (here same None none)) (blameless.member c e fine.announced);
         strays = λ place at class same.
-            ⊎_elim
-            (λ (p : index k (a.keys e) ≡ Some s.index). stray_not_at r.leader sender place s.index own class (same_Some s.index place (sym p ∙ here same (Some place) at)))
-            (λ (p : a.own e ≡ Some s.index). stray_not_own r.leader sender place s.index own class (seat.own_is ∙ p))
-            (blameless.placed c e s fine.announced (mine same));
+            let p = here same (Some place) at in
+            grind (arith, stray_not_at r.leader sender place s.index own class, stray_not_own r.leader sender place s.index own class, blameless.placed c e s fine.announced (mine same));
         equivocates = λ w x early at differ same.
             let got : Received limits m a H A c e x = all_look nat_cmp index_of (Received limits m a H A c e) s.index w.received x at (subst (Holds limits m a H A c e r.contributed) early fine.holds).received in
             let place : x.index ≡ s.index = found_exactly nat_cmp index_of number_laws number_same s.index w.received x at in
+            let theirs : got.sender ≡ k → good_for m limits.blob c x ≡ true = λ who. blameless.good c e x fine.announced (subst (λ j. H c j x) who got.handed) in
             let good : good_for m limits.blob c x ≡ true =
-            ⊎_elim (λ p. p)
-            (λ (q : (index got.sender (a.keys e) ≡ Some x.index) × (a.own e ≡ Some x.index → ⊥)).
-            ⊎_elim
-            (λ (p : index k (a.keys e) ≡ Some s.index).
-            let who : got.sender ≡ k = index_same got.sender k (a.keys e) x.index q.0 (p ∙ ap Some (sym place)) in
-            blameless.good c e x fine.announced (subst (λ j. H c j x) who got.handed))
-            (λ (p : a.own e ≡ Some s.index). absurd (q.1 (p ∙ ap Some (sym place))))
-            (blameless.placed c e s fine.announced (mine same)))
-            got.cause in
+            grind (arith, got.cause, index_same got.sender k (a.keys e) x.index, theirs, blameless.placed c e s fine.announced (mine same)) in
             let one : x ≡ s =
             blameless.alike c x s
             (record { good = good; sender = got.sender; handed = got.handed })
             (record { good = blameless.good c e s fine.announced (mine same); sender = sender; handed = handed }) place in
-            both_ways (bytes_eq x.bytes s.bytes) differ ((bytes_eq-Decides x.bytes s.bytes).1 (ap (λ (y : Indexed). y.bytes) one));
+            grind (arith, one, bytes_eq-Decides x.bytes s.bytes);
         bad = λ bad same. both_ways (good_for m limits.blob c s) bad (blameless.good c e s fine.announced (mine same));
         verified = λ _ _ _ _ _ _. tt;
         waiting = λ _ _ _ _ _ _ _. tt;
