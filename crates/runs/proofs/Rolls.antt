@@ -9,7 +9,7 @@ use Rattle.table.specs.Laws.{Ascends, look}
 use Rattle.table.specs.Table.{changed, put}
 use Rattle.model.specs.Boxes.{all_drawn, all_left}
 use Rattle.model.specs.Calls.{refused, answered, Call, discovery, notarization, shard, completion, peer_change, block_look_up, verified_look_up, Report, Rooms, phase_of, turned_down}
-use Rattle.model.specs.Histories.{Assignment, Event, Leads, announces, commitment_of, fed, on_roll, raised, roll, says_held}
+use Rattle.model.specs.Histories.{Assignment, Event, Leads, announces, commitment_of, fed, on_roll, raised, roll, round_of as rolled_round, says_held}
 use Rattle.model.specs.Intake.{Action, intake}
 use Rattle.model.specs.Jobs.{blob_in, numbered, passing, returned_in, tries}
 use Rattle.model.specs.Meaning.{Meaning, Roster, opened_for}
@@ -95,7 +95,7 @@ module _ (limits : Limits) (m : Meaning) (roster : Roster) (s : State) (up : Asc
       record {
         follows =
             simp (held, found)
-            (ap (λ e. trimmed Rattle.model.specs.Histories.round_of commitment_of limits.window (put order commitment_of e (map entry_of s.records))) (sym same) ∙ ap (trimmed Rattle.model.specs.Histories.round_of commitment_of limits.window) (sym (map-put order filed_under order commitment_of entry_of x s.records (λ _. refl))) ∙ sym (Entries.map-trimmed Rattle.model.specs.Histories.round_of commitment_of entry_of limits.window (put order filed_under x s.records)));
+            (ap (λ e. trimmed rolled_round commitment_of limits.window (put order commitment_of e (map entry_of s.records))) (sym same) ∙ ap (trimmed rolled_round commitment_of limits.window) (sym (map-put order filed_under order commitment_of entry_of x s.records (λ _. refl))) ∙ sym (Entries.map-trimmed rolled_round commitment_of entry_of limits.window (put order filed_under x s.records)));
         ascend = Entries.trimmed_ascends round_of filed_under limits.window (put order filed_under x s.records) rose;
         within = Entries.trimmed-length round_of filed_under limits.window (put order filed_under x s.records) rose (omega arith);
       }
