@@ -1,49 +1,40 @@
 -- A shard call carries the record of a commitment on; a member's good shard at its own index has then contributed.
-use Rattle.std.proofs.Common.{◌≡◌, ℕ, Bool, true, false, cond, List, [], ◌∷◌, is_some, Some, None, Option, sym, refl, ap, ◌∙◌, subst, arith}
-use Rattle.std.proofs.lemmas.Bool.{both_ways, cond_both, eq-eqb}
+use Rattle.std.proofs.Common.{◌≡◌, ℕ, Bool, true, false, cond, List, [], ◌∷◌, is_some, Some, Option, sym, ap, ◌∙◌, subst, arith}
+use Rattle.std.proofs.lemmas.Bool.{both_ways, cond_both}
 use Rattle.std.proofs.lemmas.Option.{same_Some}
 use Rattle.register.specs.Order.{order}
 use Rattle.rosters.specs.Sound.{index}
 use Rattle.scheme.specs.Pieces.{Indexed}
 use Rattle.table.specs.Laws.{Ascends}
-use Rattle.model.specs.Boxes.{boxes_with, is_primary}
 use Rattle.model.specs.Calls.{Answer, answered, Call, shard, Rooms}
 use Rattle.model.specs.Histories.{Agrees, Assignment, Event}
-use Rattle.model.specs.Jobs.{tried_in, tries}
+use Rattle.model.specs.Jobs.{tries}
 use Rattle.model.specs.Meaning.{Meaning, Roster}
-use Rattle.model.specs.State.{Limits, Phase, awaiting, cached, Rec, State, filed_under, record_of, with_peers}
+use Rattle.model.specs.State.{Limits, Phase, Rec, State, filed_under, record_of}
 use Rattle.model.specs.Steps.{Ingested, Step, advanced, began, boxes_shard, by_phase, in_epoch, known_shard, shard_by, shard_of, stays, taken, takes_shard, too_early}
-use Rattle.model.specs.declared.answer.Outcome.TheVariants.{NoEpoch, Ignored, Boxed, NotBoxed, Gain, NoGain}
+use Rattle.model.specs.declared.answer.Outcome.TheVariants.{Ignored, Gain, NoGain}
 use Rattle.runs.proofs.Boxes.{boxed-filled}
-use Rattle.runs.proofs.Entries.{by_option, found_key, never_some}
+use Rattle.runs.proofs.Entries.{by_option, found_key}
 use Rattle.runs.proofs.Rolls.{advanced_entry, intake_entry}
 use Rattle.runs.proofs.Ways.{shard_ways}
 use Rattle.enough.proofs.Draws.{Grown, advanced_grown, good_here, known, row_all, row-began, took}
 use Rattle.enough.proofs.Held.{Given, GivenTo}
 use Rattle.enough.proofs.Live.{next}
-use Rattle.enough.proofs.Moves.{Fine, For, Moved, OwnBoxes, Silent, elsewhere, event, placed, placed_other, stayed}
-
-tried_gives : (minimum : ℕ) (flags : List Bool) (i : ℕ) (ph : Phase) → Given flags i ph → Given flags i (tried_in minimum ph)
-tried_gives minimum flags i (awaiting w) h = h
-tried_gives minimum flags i (cached blob) h = h
+use Rattle.enough.proofs.Moves.{Fine, OwnBoxes, Silent, elsewhere, event, placed, placed_other}
 
 advanced-gives : (i : Ingested) (n : ℕ) → GivenTo i.rec n → GivenTo (advanced i) n
 unfolding tries
-advanced-gives i n h =
-    cond_both i.gained (tries i.rec) i.rec (λ q. GivenTo q n) (λ _. tried_gives _ i.rec.contributed n i.rec.phase h) (λ _. h)
+advanced-gives i n h = grind arith
 
 -- behind the block everything is given
 ignored_gives : (ph : Phase) (verified : Bool) (flags : List Bool) (n : ℕ) → by_phase ph false verified ≡ true → Given flags n ph
-ignored_gives (awaiting w) verified flags n h = absurd (both_ways false refl h)
-ignored_gives (cached blob) verified flags n h = tt
+ignored_gives ph verified flags n h = grind arith
 
 module _ (limits : Limits) (m : Meaning) (a : Assignment) (c : List ℕ) (ep : ℕ) (Hand : List ℕ → Indexed → Type 0) (roster : Roster) (s : State) (es : List Event)
     (agrees : Agrees a roster) (boxes : OwnBoxes c Hand s.peers) (up : Ascends order filed_under s.records) (peer : List ℕ) (x : Indexed) (rooms : Rooms) where
   -- at its own index a member's shard is not too early
   timely : (l : Option (List ℕ)) (o : Option ℕ) → o ≡ Some x.index → too_early limits m roster l o x.index ≡ false
-  timely (Some l) o at = refl
-  timely None None at = refl
-  timely None (Some place) at = rw (eq-eqb x.index place (sym (same_Some place x.index at)))
+  timely l o at = grind arith
 
   module _ (handed : Hand peer x) where
     abbrev bring : Call
@@ -56,25 +47,11 @@ module _ (limits : Limits) (m : Meaning) (a : Assignment) (c : List ℕ) (ep : �
     unchanged : (t : Step) → OwnBoxes c Hand t.state.peers → Ascends order filed_under t.state.records → record_of c t.state ≡ record_of c s →
         ((r : Rec) → record_of c s ≡ Some r → r.round.epoch.0 ≡ ep → is_some (roster.keys ep) ≡ true → index peer (a.keys ep) ≡ Some x.index → GivenTo r x.index) →
         FineHere t
-    unchanged t own rise same gives = record {
-      boxes = own;
-      ascend = rise;
-      moved = λ r at in_epoch_now.
-          subst (λ o. Moved limits m a c ep Hand roster bring s es o t.answer r) (sym at ∙ same) (
-            in_epoch_now,
-            λ knows live. stayed limits m a c ep Hand roster bring s es t.answer r live (λ is. absurd is)
-                (λ k y counts brings at_place good.
-                subst (λ y. GivenTo r y.index) brings.2
-                (gives r (sym same ∙ at) in_epoch_now knows (ap (λ k. index k (a.keys ep)) brings.1 ∙ at_place ∙ ap (λ y. Some y.index) (sym brings.2)))),
-          );
-    }
+    unchanged t own rise same gives = grind arith
 
     boxing : ((r : Rec) → record_of c s ≡ Some r → r.round.epoch.0 ≡ ep → is_some (roster.keys ep) ≡ true → index peer (a.keys ep) ≡ Some x.index → GivenTo r x.index) → FineHere (boxes_shard limits m roster c peer x s)
     unfolding boxes_shard
-    boxing gives =
-        cond_both (is_primary peer s.peers) (stays limits m roster Boxed (with_peers (boxes_with limits.boxes peer (record { commitment = c; shard = x }) s.peers) s)) (stays limits m roster NotBoxed s) FineHere
-        (λ _. unchanged (stays limits m roster Boxed (with_peers (boxes_with limits.boxes peer (record { commitment = c; shard = x }) s.peers) s)) (boxed-filled (For c Hand) limits.boxes peer (record { commitment = c; shard = x }) s.peers (λ _. handed) boxes) up refl gives)
-        (λ _. unchanged (stays limits m roster NotBoxed s) boxes up refl gives)
+    boxing gives = grind (arith, unchanged, boxed-filled)
 
     taking : (r : Rec) (ks : List (List ℕ)) → record_of c s ≡ Some r → roster.keys r.round.epoch.0 ≡ Some ks → FineHere (takes_shard limits m roster ks peer x r s)
     taking r ks at knows =
@@ -93,47 +70,32 @@ module _ (limits : Limits) (m : Meaning) (a : Assignment) (c : List ℕ) (ep : �
         let both = subst (λ n. Grown limits m a c ep Hand live.lost r (advanced (taken limits m roster ks n (began r) (record { sender = peer; shard = x }))) × (index peer (a.keys ep) ≡ Some x.index → good_here limits m a c ep Hand x ≡ true → GivenTo (advanced (taken limits m roster ks n (began r) (record { sender = peer; shard = x }))) x.index)) (sym in_epoch_now) (grown, gets) in
         next limits m a c ep Hand es (event limits m a c ep Hand roster bring s es answer) r (advanced i) live live.lost both.0 live.losses (omega arith) (λ is. absurd is)
         (λ k' y counts brings place good.
-        subst (λ y. GivenTo (advanced i) y.index) brings.2
-        (both.1 (ap (λ k. index k (a.keys ep)) brings.1 ∙ place ∙ ap (λ y. Some y.index) (sym brings.2)) (ap (good_here limits m a c ep Hand) brings.2 ∙ good))))
+        grind arith))
 
     pub shard_here : FineHere (shard_of limits m roster c peer x s)
     unfolding shard_of
     shard_here =
         by_option (λ o. FineHere (shard_by limits m roster c peer x s o)) (record_of c s)
-        (λ none. boxing (λ r at. never_some r _ (sym none ∙ at)))
+        (λ none. boxing (λ r at. cc))
         (λ r at.
         cond_both (by_phase r.phase false r.verified) (stays limits m roster Ignored s) (in_epoch limits m roster (roster.keys r.round.epoch.0) (known_shard limits m roster peer x r s) s) FineHere
-        (λ whole. unchanged (stays limits m roster Ignored s) boxes up refl
-        (λ q here _ _ _. subst (λ q. GivenTo q x.index) (same_Some r q (sym at ∙ here)) (ignored_gives r.phase r.verified r.contributed x.index whole)))
+        (λ whole. grind (arith, unchanged, same_Some, ignored_gives))
         (λ _.
-        by_option (λ o. FineHere (in_epoch limits m roster o (known_shard limits m roster peer x r s) s)) (roster.keys r.round.epoch.0)
-        (λ none. unchanged (stays limits m roster NoEpoch s) boxes up refl
-        (λ q here in_epoch_now knows _.
-        let same = same_Some r q (sym at ∙ here) in
-        absurd (both_ways (is_some (roster.keys ep)) (ap is_some (ap roster.keys (sym (ap (λ q. q.round.epoch.0) same ∙ in_epoch_now)) ∙ none)) knows)))
-        (λ ks knows.
-        cond_both (too_early limits m roster r.leader (index peer ks) x.index) (boxes_shard limits m roster r.commitment peer x s) (takes_shard limits m roster ks peer x r s) FineHere
-        (λ early. subst (λ d. FineHere (boxes_shard limits m roster d peer x s)) (sym (found_key filed_under c s.records r at))
-        (boxing (λ q here in_epoch_now _ place.
-        let same = same_Some r q (sym at ∙ here) in
-        let k = known a ep roster ks agrees (ap roster.keys (sym (ap (λ q. q.round.epoch.0) same ∙ in_epoch_now)) ∙ knows) in
-        absurd (both_ways (too_early limits m roster r.leader (index peer ks) x.index) (timely r.leader (index peer ks) (ap (index peer) k.keys ∙ place)) early))))
-        (λ _. taking r ks at knows))))
+        grind (arith, unchanged, same_Some, both_ways, found_key, boxing, known, timely, taking)))
 
   -- a shard for another commitment
   pub shard_there : (d : List ℕ) → (d ≡ c → ⊥) → Fine limits m a c ep Hand roster (shard d peer x rooms) s es (shard_of limits m roster d peer x s)
   shard_there d other =
       shard_ways limits m roster s (Fine limits m a c ep Hand roster (shard d peer x rooms) s es) d peer x
       (record {
-        still = λ o. elsewhere limits m a c ep Hand roster (shard d peer x rooms) s es (stays limits m roster o s) (quiet _) boxes up refl;
-        boxed = λ _. elsewhere limits m a c ep Hand roster (shard d peer x rooms) s es (stays limits m roster Boxed (with_peers (boxes_with limits.boxes peer (record { commitment = d; shard = x }) s.peers) s)) (quiet _)
-            (boxed-filled (For c Hand) limits.boxes peer (record { commitment = d; shard = x }) s.peers (λ is. absurd (other is)) boxes) up refl;
+        still = λ o. grind (arith, elsewhere, quiet);
+        boxed = λ _. grind (arith, elsewhere, quiet, boxed-filled);
         takes = λ r ks at _ _.
             let i = taken limits m roster ks r.round.epoch.0 (began r) (record { sender = peer; shard = x }) in
             let entry = advanced_entry i ∙ intake_entry m limits.blob ks (roster.own r.round.epoch.0) peer x r in
             placed_other limits m a c ep Hand roster (shard d peer x rooms) s es up (advanced i) s.peers (answered (cond i.gained Gain NoGain) i.reports i.action)
-            (λ is. other (sym (ap (λ n. n.commitment) entry ∙ found_key filed_under d s.records r at) ∙ is)) boxes (quiet _);
+            (λ is. grind (arith, found_key)) boxes (quiet _);
       })
     where
       quiet : (answer : Answer) → Silent limits m a c ep Hand roster (shard d peer x rooms) s es answer
-      quiet answer = record { ends = λ is. absurd is; brings = λ k y counts brings. other brings.0 }
+      quiet answer = grind arith

@@ -1,5 +1,5 @@
 -- A completion carries the record of a commitment on, or takes it out.
-use Rattle.std.proofs.Common.{◌≡◌, ℕ, List, IfSome, Some, None, Option, sym, refl, ap, ◌∙◌}
+use Rattle.std.proofs.Common.{◌≡◌, ℕ, List, IfSome, Some, None, Option, sym, refl, ◌∙◌, arith}
 use Rattle.register.specs.Order.{order}
 use Rattle.scheme.specs.Pieces.{Indexed}
 use Rattle.table.specs.Laws.{Ascends}
@@ -10,7 +10,7 @@ use Rattle.model.specs.Meaning.{Meaning, Roster, minimum_of}
 use Rattle.model.specs.State.{Job, Limits, Rec, State, filed_under, record_of, with_phase}
 use Rattle.model.specs.Steps.{bad_senders, completion_of, ends}
 use Rattle.model.specs.declared.answer.Refusal.TheVariants.{NoJob}
-use Rattle.runs.proofs.Entries.{differ, entry_laws, found_key, never_some}
+use Rattle.runs.proofs.Entries.{differ, entry_laws, found_key}
 use Rattle.runs.proofs.Intakes.{completes_ways}
 use Rattle.runs.proofs.Rolls.{tries_entry}
 use Rattle.runs.proofs.Ways.{completion_ways}
@@ -37,7 +37,7 @@ module _ (limits : Limits) (m : Meaning) (a : Assignment) (c : List ℕ) (ep : �
       go None same left = record {
         boxes = boxes;
         ascend = (entry_laws filed_under).without_ascends c s.records up;
-        moved = λ q here in_epoch_now. never_some q _ (sym ((entry_laws filed_under).without_gone c s.records up) ∙ here);
+        moved = λ q here in_epoch_now. let gone = (entry_laws filed_under).without_gone c s.records up in cc;
       }
       go (Some x) same left =
           placed limits m a c ep Hand roster (completion c rooms) s es up r x s.peers answer at same.0 same.1 boxes
@@ -49,17 +49,17 @@ module _ (limits : Limits) (m : Meaning) (a : Assignment) (c : List ℕ) (ep : �
   pub completion_here : Fine limits m a c ep Hand roster (completion c rooms) s es (completion_of limits m roster c s)
   completion_here =
       completion_ways limits m roster s (Fine limits m a c ep Hand roster (completion c rooms) s es) c
-      (elsewhere limits m a c ep Hand roster (completion c rooms) s es (record { state = s; answer = refused NoJob }) (record { ends = λ _ n. tt; brings = λ k y counts brings. absurd brings }) boxes up refl)
+      (elsewhere limits m a c ep Hand roster (completion c rooms) s es (record { state = s; answer = refused NoJob }) (grind arith) boxes up refl)
       (λ r j at out.
       let named = found_key filed_under c s.records r at in
       ending r j (completes m limits.blob j r) at (entries r j named)
-      (λ live. ended_well m limits.blob (a.keys ep) (a.own ep) Hand c r j live.lost named out live.sound live.losses))
+      (λ live. grind (arith, ended_well)))
     where
       entries : (r : Rec) (j : Job) → r.commitment ≡ c → IfSome (completes m limits.blob j r).rec (λ x. (x.commitment ≡ c) × (x.round.epoch.0 ≡ r.round.epoch.0))
       entries r j named =
           completes_ways m limits.blob j r (λ e. IfSome e.rec (λ x. (x.commitment ≡ c) × (x.round.epoch.0 ≡ r.round.epoch.0)))
           (record {
-            short = λ _. let t = tries_entry (with_phase (returned_in (passing m limits.blob r.commitment j) r.phase) (numbered r)) in (ap (λ n. n.commitment) t ∙ named, ap (λ n. n.round.epoch.0) t);
+            short = λ _. grind (arith, tries_entry);
             whole = λ _ _ _. (named, refl);
             fault = λ _ _ _. tt;
           })
@@ -74,7 +74,7 @@ module _ (limits : Limits) (m : Meaning) (a : Assignment) (c : List ℕ) (ep : �
       (record {
         short = λ _.
             let x = with_phase (returned_in (passing m limits.blob r.commitment j) r.phase) (numbered r) in
-            placed_other limits m a c ep Hand roster (completion d rooms) s es up (tries x) s.peers (answered _ _ None) (λ is. other (sym (ap (λ n. n.commitment) (tries_entry x) ∙ named) ∙ is)) boxes (quiet _);
+            placed_other limits m a c ep Hand roster (completion d rooms) s es up (tries x) s.peers (answered _ _ None) (λ is. grind (arith, tries_entry)) boxes (quiet _);
         whole = λ _ _ _. placed_other limits m a c ep Hand roster (completion d rooms) s es up _ s.peers (answered _ _ None) (λ is. other (sym named ∙ is)) boxes (quiet _);
         fault = λ _ _ _.
             elsewhere limits m a c ep Hand roster (completion d rooms) s es _ (quiet _) boxes ((entry_laws filed_under).without_ascends d s.records up)
@@ -82,4 +82,4 @@ module _ (limits : Limits) (m : Meaning) (a : Assignment) (c : List ℕ) (ep : �
       }))
     where
       quiet : (answer : Answer) → Silent limits m a c ep Hand roster (completion d rooms) s es answer
-      quiet answer = record { ends = λ is. absurd (other is); brings = λ k y counts brings. absurd brings }
+      quiet answer = grind arith

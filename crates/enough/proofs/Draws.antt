@@ -1,8 +1,7 @@
 -- Several intakes one after the other, and a trial of a job behind them, keep the record of a commitment sound.
-use Rattle.std.proofs.Common.{◌≡◌, ℕ, ◌<◌, ◌≤◌, Bool, true, false, List, [], ◌∷◌, length, Some, sym, refl, ◌∙◌, subst, subst₂}
+use Rattle.std.proofs.Common.{◌≡◌, ℕ, ◌<◌, ◌≤◌, Bool, true, false, List, [], ◌∷◌, length, Some, sym, ◌∙◌, subst, arith}
 use Rattle.std.proofs.lemmas.Bool.{cond_both, or_parts}
 use Rattle.std.specs.List.{AllByRecursion}
-use Rattle.rosters.specs.Roster.{Fair}
 use Rattle.rosters.specs.Sound.{ascending, index}
 use Rattle.scheme.specs.Pieces.{Indexed}
 use Rattle.model.specs.Histories.{Agrees, Assignment}
@@ -11,11 +10,8 @@ use Rattle.model.specs.Jobs.{tried_in, tries}
 use Rattle.model.specs.Meaning.{Meaning, Roster, good_for, minimum_of}
 use Rattle.model.specs.State.{Limits, Rec, Sent, with_phase}
 use Rattle.model.specs.Steps.{Ingested, advanced, all_taken, began, taken}
-use Rattle.runs.proofs.Places.{own_below}
-use Rattle.runs.proofs.Reached.{seated}
 use Rattle.enough.proofs.Ends.{tried_phase}
 use Rattle.enough.proofs.Held.{GivenTo, Settled, Sound}
-use Rattle.enough.proofs.Members.{holds}
 use Rattle.enough.proofs.Takes.{Took, taken_in}
 
 -- what a roster that knows the epoch tells of it
@@ -27,10 +23,7 @@ pub record Knows (a : Assignment) (e : ℕ) (roster : Roster) (ks : List (List �
   pub mine : (i : ℕ) → a.own e ≡ Some i → i < length (a.keys e)
 
 pub known : (a : Assignment) (e : ℕ) (roster : Roster) (ks : List (List ℕ)) → Agrees a roster → roster.keys e ≡ Some ks → Knows a e roster ks
-known a e roster ks agrees at =
-    let seat = seated a roster e ks agrees at in
-    let fair : Fair (Some (a.keys e)) (a.own e) = subst₂ (λ l o. Fair (Some l) o) seat.keys_are seat.own_is seat.fair in
-    record { keys = seat.keys_are; own = seat.own_is; few = fair.0; up = holds (ascending (a.keys e)) fair.1; mine = λ i. own_below (a.keys e) (a.own e) i fair }
+known a e roster ks agrees at = grind arith
 
 module _ (limits : Limits) (m : Meaning) (a : Assignment) (c : List ℕ) (e : ℕ) (Hand : List ℕ → Indexed → Type 0) where
   abbrev pub good_here : Indexed → Bool
@@ -58,9 +51,8 @@ module _ (limits : Limits) (m : Meaning) (a : Assignment) (c : List ℕ) (e : �
     unfolding intake
     took sender s r handed same k =
         let t = taken_in good_here (minimum_of c) (a.keys e) (a.own e) Hand knows.few knows.mine lost sender s handed r k in
-        subst (λ l. Took good_here (minimum_of c) (a.keys e) (a.own e) Hand lost sender s r (from_member (good_for m limits.blob r.commitment) (roster.own e) sender s r (index sender l))) (sym knows.keys)
-        (subst (λ o. Took good_here (minimum_of c) (a.keys e) (a.own e) Hand lost sender s r (from_member (good_for m limits.blob r.commitment) o sender s r (index sender (a.keys e)))) (sym knows.own)
-        (subst (λ d. Took good_here (minimum_of c) (a.keys e) (a.own e) Hand lost sender s r (from_member (good_for m limits.blob d) (a.own e) sender s r (index sender (a.keys e)))) (sym same) t))
+        rw (knows.keys, knows.own)
+        (subst (λ d. Took good_here (minimum_of c) (a.keys e) (a.own e) Hand lost sender s r (from_member (good_for m limits.blob d) (a.own e) sender s r (index sender (a.keys e)))) (sym same) t)
 
     row_on : (r : Rec) (i : Ingested) (p : Sent) → Hand p.sender p.shard → Row lost r i → Row lost r (taken limits m roster ks e i p)
     row_on r i p handed row =
@@ -68,7 +60,7 @@ module _ (limits : Limits) (m : Meaning) (a : Assignment) (c : List ℕ) (e : �
         record {
           sound = t.sound;
           grows = λ n h. t.grows n (row.grows n h);
-          still = λ quiet. let both = or_parts i.gained _ quiet in t.still both.1 ∙ row.still both.0;
+          still = λ quiet. grind (arith, or_parts);
           commitment = t.commitment ∙ row.commitment;
         }
 
@@ -91,4 +83,4 @@ module _ (limits : Limits) (m : Meaning) (a : Assignment) (c : List ℕ) (e : �
       (λ quiet. record { sound = row.sound; settled = subst (λ q. Settled (minimum_of c) q.phase) (sym (row.still quiet)) settled; grows = row.grows })
 
   pub row-began : (lost : List ℕ) (r : Rec) → r.commitment ≡ c → SoundHere lost r → Row lost r (began r)
-  row-began lost r same k = record { sound = k; grows = λ n h. h; still = λ _. refl; commitment = same }
+  row-began lost r same k = grind arith

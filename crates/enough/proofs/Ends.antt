@@ -1,21 +1,20 @@
 -- Trying a job and completing one keep a record sound; a short completion loses an index at least.
-use Rattle.std.proofs.Common.{◌≡◌, ℕ, suc, ◌+◌, ◌-◌, ◌<◌, ◌≤◌, Bool, false, cond, not, ltb, leb, List, [], ◌∷◌, ◌++◌, map, length, get_or, IfSome, Some, None, Ok, Err, filter, Option, Result, sym, refl, ap, subst, arith, length-append, length-take}
-use Rattle.std.proofs.ByRecursion.{All-append, All-drop, All-take}
-use Rattle.std.proofs.lemmas.Bool.{cond_both, leb-false, leb-true, ltb-true, not-true}
+use Rattle.std.proofs.Common.{◌≡◌, ℕ, suc, ◌+◌, ◌<◌, ◌≤◌, Bool, not, List, [], ◌∷◌, ◌++◌, map, length, IfSome, Some, None, Ok, Err, filter, Option, Result, sym, ap, subst, arith, length-append, length-take}
+use Rattle.std.proofs.lemmas.Bool.{cond_both, ltb-true, not-true}
 use Rattle.std.specs.List.{AllByRecursion}
 use Rattle.block.specs.declared.kind.Reading.{Reading}
 use Rattle.reconstruct.specs.declared.error.Error.{Error}
 use Rattle.scheme.specs.Pieces.{Indexed}
 use Rattle.scheme.specs.Told.{Opened}
 use Rattle.model.specs.Intake.{index_of}
-use Rattle.model.specs.Jobs.{Ended, completes, decoded, job_in, numbered, passing, returned, shard_of, shortened, started, tried_in, tried_with, tries}
-use Rattle.model.specs.Meaning.{Meaning, good_for, minimum_of, opened_for, rebuilt_for}
+use Rattle.model.specs.Jobs.{Ended, completes, decoded, job_in, numbered, passing, returned, shard_of, shortened, tried_in, tried_with, tries}
+use Rattle.model.specs.Meaning.{Meaning, good_for, minimum_of}
 use Rattle.model.specs.Promises.{CachedAbove}
 use Rattle.model.specs.declared.answer.Outcome.{Outcome}
 use Rattle.model.specs.State.{Job, Phase, awaiting, cached, Rec, Sent, Shards, with_phase}
-use Rattle.runs.proofs.Entries.{never_some}
+use Rattle.runs.proofs.Each.{all_append, all_drop, all_take}
 use Rattle.runs.proofs.Records.{sent_at}
-use Rattle.runs.proofs.Tallies.{flag_most, hit, tally, tally_append, tally_split}
+use Rattle.runs.proofs.Tallies.{tally, tally_append, tally_split}
 use Rattle.enough.proofs.Counting.{itself}
 use Rattle.enough.proofs.Held.{Checked, Given, GivenTo, InPhase, Lost, Pending, Settled, Sound, Waiting, few_with}
 
@@ -29,27 +28,16 @@ module _ (good : Indexed → Bool) where
   -- of pending shards the good and the bad make up all
   pub sorted_out : (i : ℕ) (ps : List Sent) → tally index_of i (filter good (map shard_of ps)) + tally itself i (map sent_at (filter fails ps)) ≡ tally sent_at i ps
   sorted_out i [] = omega arith
-  sorted_out i (p ∷ ps) =
-      let ih = sorted_out i ps in
-      cond_both (good p.shard) (p.shard ∷ filter good (map shard_of ps)) (filter good (map shard_of ps))
-      (λ l. tally index_of i l + tally itself i (map sent_at (cond (not (good p.shard)) (p ∷ filter fails ps) (filter fails ps))) ≡ hit i (sent_at p) + tally sent_at i ps)
-      (λ t. simp t (omega arith)) (λ f. simp f (omega arith))
+  sorted_out i (p ∷ ps) = grind (arith, sorted_out i ps)
 
   pub all_out : (ps : List Sent) → length (filter good (map shard_of ps)) + length (map sent_at (filter fails ps)) ≡ length ps
   all_out [] = omega arith
-  all_out (p ∷ ps) =
-      let ih = all_out ps in
-      cond_both (good p.shard) (p.shard ∷ filter good (map shard_of ps)) (filter good (map shard_of ps))
-      (λ l. length l + length (map sent_at (cond (not (good p.shard)) (p ∷ filter fails ps) (filter fails ps))) ≡ suc (length ps))
-      (λ t. simp t (omega arith)) (λ f. simp f (omega arith))
+  all_out (p ∷ ps) = grind (arith, all_out ps)
 
 module _ (good : Indexed → Bool) (minimum : ℕ) (keys : List (List ℕ)) (own : Option ℕ) (Hand : List ℕ → Indexed → Type 0) where
   pub good_checked : (ps : List Sent) → AllByRecursion (Pending good minimum keys own Hand) ps → AllByRecursion (Checked good minimum keys own Hand) (filter good (map shard_of ps))
   good_checked [] all = tt
-  good_checked (p ∷ ps) all =
-      cond_both (good p.shard) (p.shard ∷ filter good (map shard_of ps)) (filter good (map shard_of ps)) (AllByRecursion (Checked good minimum keys own Hand))
-      (λ t. (record { passes = t; key = p.sender; handed = all.0.handed }, good_checked ps all.1))
-      (λ f. good_checked ps all.1)
+  good_checked (p ∷ ps) all = grind (arith, good_checked ps all.1)
 
   bad_lost : (ps : List Sent) → AllByRecursion (Pending good minimum keys own Hand) ps → AllByRecursion (Lost good minimum keys own Hand) (map sent_at (filter (fails good) ps))
   bad_lost [] all = tt
@@ -63,24 +51,7 @@ module _ (good : Indexed → Bool) (minimum : ℕ) (keys : List (List ℕ)) (own
     tried_job : (o : Option Job) (w : Shards) (lost : List ℕ) → Waiting good minimum keys own Hand flags verified (with_job o w) lost →
         Waiting good minimum keys own Hand flags verified (tried_with minimum o (with_job o w)) lost × few_with minimum (tried_with minimum o (with_job o w)).job (tried_with minimum o (with_job o w))
     tried_job (Some j) w lost k = (k, tt)
-    tried_job None w lost k =
-        cond_both (leb minimum (length w.checked + length w.pending)) (started minimum (with_job None w)) (with_job None w)
-        (λ v. Waiting good minimum keys own Hand flags verified v lost × few_with minimum v.job v)
-        (λ t.
-        let n = minimum - length w.checked in
-        let many = leb-true minimum (length w.checked + length w.pending) t in (
-          record {
-            long = k.long;
-            assigned = k.assigned;
-            tallied = λ i. let b = k.tallied i in let d = tally_split sent_at i n w.pending in omega arith;
-            received = k.received;
-            checked = tt;
-            pending = All-drop (Pending good minimum keys own Hand) n w.pending k.pending;
-            job = (k.checked, All-take (Pending good minimum keys own Hand) n w.pending k.pending, omega (arith, length-take n w.pending));
-          },
-          tt,
-        ))
-        (λ f. (k, leb-false minimum (length w.checked + length w.pending) f))
+    tried_job None w lost k = grind (arith, tally_split, all_drop, all_take, length-take)
 
     pub tried_phase : (completions : ℕ) (ph : Phase) (lost : List ℕ) → InPhase good minimum keys own Hand flags verified completions lost ph →
         InPhase good minimum keys own Hand flags verified completions lost (tried_in minimum ph) × Settled minimum (tried_in minimum ph) × ((i : ℕ) → Given flags i ph → Given flags i (tried_in minimum ph))
@@ -90,24 +61,10 @@ module _ (good : Indexed → Bool) (minimum : ℕ) (keys : List (List ℕ)) (own
     -- what the bad ones of a job leave
     short_keeps : (j : Job) (w : Shards) (lost : List ℕ) → Waiting good minimum keys own Hand flags verified (with_job (Some j) w) lost →
         Waiting good minimum keys own Hand flags verified (returned (j.checked ++ filter good (map shard_of j.pending)) (with_job (Some j) w)) (map sent_at (filter (fails good) j.pending) ++ lost)
-    short_keeps j w lost k =
-        let kept = filter good (map shard_of j.pending) in
-        let gone = map sent_at (filter (fails good) j.pending) in
-        record {
-          long = k.long;
-          assigned = k.assigned;
-          tallied = λ i.
-              let b = k.tallied i in let s = sorted_out good i j.pending in let a = tally_append index_of i w.checked (j.checked ++ kept) in
-              let c = tally_append index_of i j.checked kept in let d = tally_append itself i gone lost in omega arith;
-          received = k.received;
-          checked = All-append (Checked good minimum keys own Hand) w.checked (j.checked ++ kept) k.checked
-              (All-append (Checked good minimum keys own Hand) j.checked kept k.job.0 (good_checked j.pending k.job.1));
-          pending = k.pending;
-          job = tt;
-        }
+    short_keeps j w lost k = grind (arith, sorted_out, tally_append, all_append, good_checked)
 
     pub lost_once : (w : Shards) (lost : List ℕ) → Waiting good minimum keys own Hand flags verified w lost → (i : ℕ) → tally itself i lost ≤ 1
-    lost_once w lost k i = let b = k.tallied i in let o = flag_most (get_or flags i false) in omega arith
+    lost_once w lost k i = grind arith
 
   -- what a completion leaves of a record, where it leaves one
   pub record Left (lost : List ℕ) (r : Rec) (outcome : Outcome) (left : Rec) : Type 0 where
@@ -118,8 +75,6 @@ module _ (good : Indexed → Bool) (minimum : ℕ) (keys : List (List ℕ)) (own
     pub longer : length lost ≤ length more
     pub number : CachedAbove (length more) outcome
     pub grows : (i : ℕ) → GivenTo r i → GivenTo left i
-    pub commitment : left.commitment ≡ r.commitment
-    pub round : left.round ≡ r.round
 
 module _ (m : Meaning) (limit : ℕ) (keys : List (List ℕ)) (own : Option ℕ) (Hand : List ℕ → Indexed → Type 0) (r : Rec) (j : Job) (w : Shards) (lost : List ℕ) where
   abbrev good' : Indexed → Bool
@@ -149,13 +104,11 @@ module _ (m : Meaning) (limit : ℕ) (keys : List (List ℕ)) (own : Option ℕ)
         record {
           more = gone ++ lost;
           sound = t.0;
-          losses = All-append (Lost good' minimum' keys own Hand) gone lost (bad_lost good' minimum' keys own Hand j.pending k.0.job.1) losses;
+          losses = grind (arith, all_append, bad_lost, losses);
           settled = t.1;
           longer = omega arith;
           number = many;
-          grows = λ i h. t.2 i h;
-          commitment = refl;
-          round = refl;
+          grows = t.2;
         }
 
     decoded-left : (n : ℕ) (opened : Opened) (result : Result Reading Error) → Ending (decoded n opened result (numbered out))
@@ -163,30 +116,22 @@ module _ (m : Meaning) (limit : ℕ) (keys : List (List ℕ)) (own : Option ℕ)
     decoded-left n opened (Ok reading) =
         record {
           more = lost;
-          sound = lost_once good' minimum' keys own Hand r.contributed r.verified (with_job (Some j) w) lost k.0;
+          sound = grind (arith, lost_once);
           losses = losses;
           settled = tt;
           longer = omega arith;
           number = tt;
           grows = λ i h. tt;
-          commitment = refl;
-          round = refl;
         }
 
     pub completed : Ending (completes m limit j out)
     unfolding completes
-    completed =
-        cond_both (ltb (length (passing m limit r.commitment j)) minimum')
-        (shortened (suc r.completions) (passing m limit r.commitment j) (numbered out))
-        (decoded (suc r.completions) (opened_for m limit r.commitment (passing m limit r.commitment j)) (rebuilt_for m limit r.commitment (passing m limit r.commitment j)) (numbered out))
-        Ending
-        (λ t. short_left (ltb-true (length (passing m limit r.commitment j)) minimum' t))
-        (λ _. decoded-left (suc r.completions) (opened_for m limit r.commitment (passing m limit r.commitment j)) (rebuilt_for m limit r.commitment (passing m limit r.commitment j)))
+    completed = grind (arith, short_left, ltb-true, decoded-left)
 
 -- the job that is out, in its phase
 job_phase : (ph : Phase) (j : Job) → job_in ph ≡ Some j → (w : Shards) × (ph ≡ awaiting (with_job (Some j) w))
 job_phase (awaiting w) j h = (w, ap (λ o. awaiting (with_job o w)) h)
-job_phase (cached blob) j h = never_some j _ h
+job_phase (cached blob) j h = cc
 
 pub ended_well : (m : Meaning) (limit : ℕ) (keys : List (List ℕ)) (own : Option ℕ) (Hand : List ℕ → Indexed → Type 0) (c : List ℕ) (r : Rec) (j : Job) (lost : List ℕ) →
     r.commitment ≡ c → job_in r.phase ≡ Some j → Sound (good_for m limit c) (minimum_of c) keys own Hand lost r → AllByRecursion (Lost (good_for m limit c) (minimum_of c) keys own Hand) lost →

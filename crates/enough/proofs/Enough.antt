@@ -1,35 +1,31 @@
 -- Enough good shards bring the block: at least as many are in play as the minimum, and no more can be lost than are left.
-use Rattle.std.proofs.Common.{◌≡◌, ℕ, ◌+◌, ◌-◌, ◌<◌, ◌≤◌, Bool, true, false, leb, ◌⊎◌, List, [], ◌++◌, map, length, get_or, is_some, Some, None, Ok, Err, filter, Option, sym, refl, ap, ◌∙◌, subst, inl, inr, ⊎_elim, arith, length-append}
-use Rattle.std.proofs.lemmas.Option.{same_Some}
-use lib.ListN.{length-map}
-use Rattle.std.proofs.ByRecursion.{All-append, All-weaker}
-use Rattle.std.proofs.lemmas.Bool.{both_ways, cases_lt, cond_both}
+use Rattle.std.proofs.Common.{◌≡◌, ℕ, ◌+◌, ◌-◌, ◌<◌, ◌≤◌, Bool, true, false, ◌⊎◌, List, [], ◌++◌, map, length, get_or, Some, None, Err, filter, Option, sym, refl, ap, ◌∙◌, subst, inl, inr, ⊎_elim, arith, length-append}
+use Rattle.std.proofs.lemmas.List.{length-map}
+use Rattle.std.proofs.lemmas.Bool.{cases_lt}
 use Rattle.std.specs.Option.{option_map}
 use Rattle.std.specs.List.{AllByRecursion}
-use Rattle.reconstruct.specs.Rebuilt.{raised, rebuilt}
 use Rattle.reconstruct.specs.declared.error.Error.{Error}
 use Rattle.scheme.specs.Pieces.{Indexed}
-use Rattle.model.specs.Calls.{Answer, refused, completion, block_look_up, block_in, gives, is_commitment, job_out, phase_of, turned_down, unless}
+use Rattle.model.specs.Calls.{refused, completion, block_look_up, is_commitment, phase_of}
 use Rattle.model.specs.Histories.{Agrees, Assignment, Entry, Event, HandedIn, Leads, since}
 use Rattle.model.specs.Intake.{index_of}
 use Rattle.model.specs.Jobs.{completes, job_in, passing, shard_of}
 use Rattle.model.specs.Meaning.{Meaning, Roster, good_for, minimum_of, rebuilt_for}
-use Rattle.model.specs.Promises.{CompletesWell, Completing, EndedAbove, Enough, EnoughBringTheBlock, GoodShard, GoesOn, HandsIn, Sufficient, asked}
+use Rattle.model.specs.Promises.{CompletesWell, Completing, EndedAbove, Enough, EnoughBringTheBlock, GoesOn, HandsIn, Sufficient, asked}
 use Rattle.model.specs.State.{Job, Limits, Phase, awaiting, cached, Rec, Shards, State, filed_under, record_of}
-use Rattle.model.specs.Steps.{block_given, completed_by, completion_by, completion_of, step, unless_refused}
-use Rattle.model.specs.declared.answer.Refusal.{Refusal}
-use Rattle.model.specs.declared.answer.Refusal.TheVariants.{Malformed, NoBlock, Buffer}
-use Rattle.runs.proofs.Entries.{by_option, found_key, never_some}
+use Rattle.model.specs.Steps.{completion_of, step}
+use Rattle.model.specs.declared.answer.Refusal.TheVariants.{NoBlock}
+use Rattle.runs.proofs.Each.{all_append, all_weaker, all_with}
+use Rattle.runs.proofs.Entries.{by_option, found_key}
 use Rattle.runs.proofs.Intakes.{completes_ways}
 use Rattle.runs.proofs.Rolls.{roll_record}
 use Rattle.runs.specs.Rolls.{entry_of}
 use Rattle.runs.proofs.Places.{index_below, index_same}
-use Rattle.runs.proofs.Records.{at_job, sent_at}
-use Rattle.runs.proofs.Tallies.{distinct, flag, flag_most, tally, tally_append, tally_map}
+use Rattle.runs.proofs.Records.{sent_at}
+use Rattle.runs.proofs.Tallies.{distinct, flag_most, tally, tally_append, tally_map}
 use Rattle.enough.proofs.Counting.{counted, covered, crowded, itself, once_each}
-use Rattle.enough.proofs.Ends.{good_checked, lost_once, sorted_out}
-use Rattle.enough.proofs.Flags.{all_with}
-use Rattle.enough.proofs.Held.{Checked, Given, GivenTo, InPhase, Jobbed, Lost, Settled, Waiting, few_with}
+use Rattle.enough.proofs.Ends.{good_checked, sorted_out}
+use Rattle.enough.proofs.Held.{Given, GivenTo, InPhase, Jobbed, Lost, Settled, Waiting, few_with}
 use Rattle.enough.proofs.Live.{Live, ended_above_more}
 use Rattle.enough.proofs.Members.{own_place}
 use Rattle.enough.proofs.Since.{standing}
@@ -51,9 +47,6 @@ module _ (limits : Limits) (m : Meaning) (a : Assignment) (h : List Event) (c : 
   abbrev Hands : ℕ → Type 0
   Hands = HandsIn limits m a h c keys
 
-  abbrev CheckedHere : Indexed → Type 0
-  CheckedHere = Checked good (minimum_of c) keys own Hand
-
   abbrev LiveHere : Rec → Type 0
   LiveHere = Live limits m a c entry.round.epoch.0 Hand (since limits.window c h)
 
@@ -67,14 +60,12 @@ module _ (limits : Limits) (m : Meaning) (a : Assignment) (h : List Event) (c : 
     -- a place that handed in a good shard lost nothing
     never_lost : (i : ℕ) → Hands i → LostHere i → ⊥
     never_lost i hands lost =
-        let own = own_place keys i live.rising hands.member in
-        let key = index_same lost.key (get_or keys i []) keys i lost.place own in
+        let key = index_same lost.key (get_or keys i []) keys i lost.place (own_place keys i live.rising hands.member) in
         let same = hands.only lost.bytes (subst (λ k. Hand k (record { index = i; bytes = lost.bytes })) key lost.handed) in
-        both_ways (good (record { index = i; bytes = lost.bytes })) lost.bad (subst (λ b. good (record { index = i; bytes = b }) ≡ true) (sym same) hands.good)
+        grind (arith, lost.bad, hands.good)
 
     lost_apart : (ph : Phase) → InPhase good (minimum_of c) keys own Hand r.contributed r.verified r.completions live.lost ph → (i : ℕ) → tally itself i live.lost ≤ 1
-    lost_apart (awaiting w) k = lost_once good (minimum_of c) keys own Hand r.contributed r.verified w live.lost k.0
-    lost_apart (cached blob) k = k
+    lost_apart ph k = grind arith
 
     -- the places and the lost indices are apart
     not_lost : (i : ℕ) → Hands i → tally itself i live.lost ≡ 0
@@ -85,17 +76,15 @@ module _ (limits : Limits) (m : Meaning) (a : Assignment) (h : List Event) (c : 
         (cases_lt 0 (tally itself i live.lost))
 
     not_both : (i : ℕ) → 1 ≤ tally itself i places → tally itself i live.lost ≡ 0
-    not_both i some =
-        let p = counted itself i Hands places enough.each some in
-        not_lost i (subst Hands p.2 p.1)
+    not_both i some = grind (arith, counted, not_lost)
 
     few_lost : length places + length live.lost ≤ length keys
     few_lost =
         let long = length-append places live.lost in
         let all = crowded (length keys) (places ++ live.lost)
-        (All-append (λ i. i < length keys) places live.lost
-        (All-weaker Hands (λ i. i < length keys) (λ i x. x.member) places enough.each)
-        (All-weaker LostHere (λ i. i < length keys) (λ i x. index_below x.key keys i x.place) live.lost live.losses))
+        (all_append (λ i. i < length keys) places live.lost
+        (all_weaker Hands (λ i. i < length keys) (λ i x. x.member) places enough.each)
+        (all_weaker LostHere (λ i. i < length keys) (λ i x. index_below x.key keys i x.place) live.lost live.losses))
         (λ i. once i) in
         omega arith
       where
@@ -107,14 +96,12 @@ module _ (limits : Limits) (m : Meaning) (a : Assignment) (h : List Event) (c : 
             ⊎_elim (λ some. let z = not_both i some in omega arith) (λ none. omega arith) (cases_lt 0 (tally itself i places))
 
     pub past : AllByRecursion (λ e. Completing c e.call → EndedAbove (length keys - length places) e.answer) (since limits.window c h)
-    past =
-        All-weaker (λ x. Completing c x.call → EndedAbove (length live.lost) x.answer) (λ x. Completing c x.call → EndedAbove (length keys - length places) x.answer)
-        (λ x e is. let few = few_lost in ended_above_more (length live.lost) (length keys - length places) x.answer (omega arith) (e is)) (since limits.window c h) live.ended
+    past = grind (arith, all_weaker, few_lost, ended_above_more)
 
     -- each place has contributed
     pub given_places : AllByRecursion (λ p. GivenTo r p) places
     given_places =
-        All-weaker Hands (λ p. GivenTo r p)
+        all_weaker Hands (λ p. GivenTo r p)
         (λ p x. live.gave (get_or keys p []) (record { index = p; bytes = x.bytes }) x.handed (own_place keys p live.rising x.member) x.good)
         places enough.each
 
@@ -122,24 +109,12 @@ module _ (limits : Limits) (m : Meaning) (a : Assignment) (h : List Event) (c : 
     no_job : (w : Shards) → WaitingHere w →
         AllByRecursion (λ p. get_or r.contributed p false ≡ true) places → few_with (minimum_of c) w.job w → w.job ≡ None → ⊥
     no_job w k came settled none =
-        let few : length w.checked + length w.pending < minimum_of c = subst (λ o. few_with (minimum_of c) o w) none settled in
+        let few : length w.checked + length w.pending < minimum_of c = grind arith in
         let shown = map index_of w.checked ++ map sent_at w.pending in
         let all = covered places shown enough.distinct
         (all_with Hands (λ p. get_or r.contributed p false ≡ true) (λ p. 1 ≤ tally itself p shown)
-        (λ p hands on.
-        let t = k.tallied p in
-        let b : flag (get_or r.contributed p false) ≡ 1 = rw on in
-        let l = not_lost p hands in
-        let j : at_job p w.job ≡ 0 = ap (at_job p) none in
-        let x = tally_append itself p (map index_of w.checked) (map sent_at w.pending) in
-        let y = tally_map itself index_of p w.checked in
-        let z = tally_map itself sent_at p w.pending in
-        omega arith)
-        places enough.each came) in
-        let n = length-append (map index_of w.checked) (map sent_at w.pending) in
-        let x = length-map w.checked index_of in
-        let y = length-map w.pending sent_at in
-        omega (arith, enough.many)
+        (λ p hands on. let t = k.tallied p in grind (arith, not_lost p hands, tally_append, tally_map)) places enough.each came) in
+        grind (arith, enough.many, length-append, length-map)
 
     -- what passes of a job is good, handed in, and at distinct indices
     sufficient : (w : Shards) (j : Job) → WaitingHere w →
@@ -149,28 +124,15 @@ module _ (limits : Limits) (m : Meaning) (a : Assignment) (h : List Event) (c : 
         let jobbed = subst (Jobbed good (minimum_of c) keys own Hand) out k.job in
         record {
           many = many;
-          distinct = distinct index_of (j.checked ++ kept)
-              (λ i.
-              let t = k.tallied i in
-              let b = flag_most (get_or r.contributed i false) in
-              let o : at_job i w.job ≡ tally index_of i j.checked + tally sent_at i j.pending = ap (at_job i) out in
-              let x = tally_append index_of i j.checked kept in
-              let y = sorted_out good i j.pending in
-              omega arith);
-          each = All-weaker CheckedHere (GoodShard limits m a h c)
-              (λ x ok. record { good = ok.passes; sender = ok.key; handed = ok.handed }) (j.checked ++ kept)
-              (All-append CheckedHere j.checked kept jobbed.0
-              (good_checked good (minimum_of c) keys own Hand j.pending jobbed.1));
+          distinct = distinct index_of (j.checked ++ kept) (λ i. let t = k.tallied i in grind (arith, flag_most, tally_append, sorted_out));
+          each = grind (arith, all_weaker, all_append, good_checked);
         }
 
     no_fault : (w : Shards) (j : Job) (e : Error) → WaitingHere w →
         w.job ≡ Some j → minimum_of c ≤ length (passing m limits.blob c j) → rebuilt_for m limits.blob c (passing m limits.blob c j) ≡ Err e → ⊥
     no_fault w j e k out many bad =
         let opens = enough.opens (passing m limits.blob c j) (sufficient w j k out many) in
-        let whole : rebuilt_for m limits.blob c (passing m limits.blob c j) ≡ Ok opens.reading =
-        ap (rebuilt m.digest m.reads c) opens.opens ∙ ap raised opens.fits in
-        let wrong : Ok opens.reading ≡ Err e = sym whole ∙ bad in
-        let z : ◌≡◌ {A = ℕ} 0 1 = cc in omega arith
+        grind (arith, opens.opens, opens.fits)
 
     goes_on : (w : Shards) (j : Job) → r.commitment ≡ c → WaitingHere w →
         w.job ≡ Some j → GoesOn (completes m limits.blob j r).outcome
@@ -185,42 +147,21 @@ module _ (limits : Limits) (m : Meaning) (a : Assignment) (h : List Event) (c : 
 
 -- what a look-up answers, by why it may be turned down and by what it finds
 module _ (limits : Limits) (m : Meaning) (roster : Roster) (s : State) (c : List ℕ) where
-  abbrev look_answer : Option Refusal → Option Phase → Answer
-  look_answer (Some refusal) o = refused refusal
-  look_answer None o = (block_given limits m roster s o).answer
-
-  look_is : (room : ℕ) (t : Option Refusal) → (unless_refused limits m roster t s (block_look_up c room)).answer ≡ look_answer t (phase_of (record_of c s))
-  look_is room (Some refusal) = refl
-  look_is room None = refl
-
   -- a block that is there is not refused for not being there
   there : (room : ℕ) (blob : List ℕ) → is_commitment c ≡ true → phase_of (record_of c s) ≡ Some (cached blob) → (step limits m roster (block_look_up c room) s).answer ≡ refused NoBlock → ⊥
   unfolding step
-  there room blob proper at =
-      let is = look_is room (turned_down limits s (block_look_up c room)) in
-      let here : look_answer (unless true Malformed (gives room (Some (cached blob)))) (Some (cached blob)) ≡ refused NoBlock → ⊥ =
-      cond_both (leb (length (block_in blob)) room) None (Some Buffer) (λ t. look_answer t (Some (cached blob)) ≡ refused NoBlock → ⊥)
-      (λ _ wrong. let z : ◌≡◌ {A = ℕ} 0 1 = cc in omega arith) (λ _ wrong. let z : ◌≡◌ {A = ℕ} 0 1 = cc in omega arith) in
-      subst (λ x. x ≡ refused NoBlock → ⊥) (sym is)
-      (subst (λ o. look_answer (unless (is_commitment c) Malformed (gives room o)) o ≡ refused NoBlock → ⊥) (sym at)
-      (subst (λ b. look_answer (unless b Malformed (gives room (Some (cached blob)))) (Some (cached blob)) ≡ refused NoBlock → ⊥) (sym proper) here))
+  there room blob proper at = grind arith
 
   -- a job that is out is completed
   completing : (r : Rec) (j : Job) → is_commitment c ≡ true → record_of c s ≡ Some r → job_in r.phase ≡ Some j → GoesOn (completes m limits.blob j r).outcome →
       CompletesWell (step limits m roster (completion c (record { reports = 512; broadcast = limits.shard })) s).answer
   unfolding step completion_of
-  completing r j proper at out goes =
-      let call = completion c (record { reports = 512; broadcast = limits.shard }) in
-      let open_job : job_out (record_of c s) ≡ true = ap job_out at ∙ ap is_some out in
-      let none : turned_down limits s call ≡ None = simp (proper, open_job) in
-      subst (λ t. CompletesWell (unless_refused limits m roster t s call).answer) (sym none)
-      (subst (λ o. CompletesWell (completion_by limits m roster c s o).answer) (sym at)
-      (subst (λ o. CompletesWell (completed_by limits m roster c s r o).answer) (sym out) goes))
+  completing r j proper at out goes = grind arith
 
 -- the record that the roll speaks of
 recorded : (o : Option Rec) (entry : Entry) → option_map entry_of o ≡ Some entry → (r : Rec) × (o ≡ Some r) × (entry_of r ≡ entry)
-recorded None entry h = never_some entry _ h
-recorded (Some r) entry h = (r, refl, same_Some (entry_of r) entry h)
+recorded None entry h = cc
+recorded (Some r) entry h = (r, refl, cc)
 
 pub brought : (limits : Limits) (m : Meaning) (a : Assignment) (h : List Event) (s : State) (roster : Roster) → Leads limits m a h s → Agrees a roster → EnoughBringTheBlock limits m a h (λ call. (step limits m roster call s).answer)
 brought limits m a h s roster leads agrees c entry places enough =

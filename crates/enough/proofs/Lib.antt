@@ -6,7 +6,6 @@ mod Draws
 mod Ends
 pub mod Enough
 mod Shown
-mod Flags
 mod Held
 mod Live
 mod Members

@@ -1,59 +1,28 @@
 -- What is true of the record of a commitment and of the events since its admission, and how a call carries it on.
-use Rattle.std.proofs.Common.{◌≡◌, ℕ, zero, suc, ◌≤◌, true, false, cond, eqb, List, [], ◌∷◌, length, get_or, replicate, is_ok, Some, Ok, Err, Option, refl, ⊎_elim, le_trans, arith}
-use lib.ListN.{length-replicate}
-use Rattle.std.proofs.ByRecursion.{All-weaker}
-use Rattle.std.proofs.lemmas.Bool.{both_ways, cond_both, eqb-false}
+use Rattle.std.proofs.Common.{◌≡◌, ℕ, zero, suc, ◌≤◌, true, false, List, [], ◌∷◌, length, get_or, replicate, Some, Option, refl, ⊎_elim, arith}
+use Rattle.std.proofs.lemmas.List.{length-replicate}
+use Rattle.std.proofs.lemmas.Bool.{both_ways}
 use Rattle.std.specs.List.{AllByRecursion}
-use Rattle.register.specs.Commitments.{config_of}
-use Rattle.register.specs.declared.commitment.Malformed.TheVariants.{Length, ZeroMinimum, ZeroExtra}
 use Rattle.register.specs.declared.counters.Round.{Round}
 use Rattle.rosters.specs.Sound.{ascending, index}
 use Rattle.scheme.specs.Pieces.{Indexed}
-use Rattle.model.specs.Calls.{Answer, refused, answered, changed_peers, given, told, is_commitment}
+use Rattle.model.specs.Calls.{Answer, is_commitment}
 use Rattle.model.specs.Histories.{Assignment, Brings, Counts, Event, HandedIn}
 use Rattle.model.specs.Meaning.{Meaning, minimum_of}
-use Rattle.model.specs.Promises.{CachedAbove, Completing, EndedAbove}
+use Rattle.model.specs.Promises.{Completing, EndedAbove}
 use Rattle.model.specs.State.{Limits, Rec, new_record}
-use Rattle.model.specs.declared.answer.Outcome.{Outcome}
-use Rattle.model.specs.declared.answer.Outcome.TheVariants.{NoEpoch, NoMember, OtherEpoch, LeaderStands, Declined, Held, Cached, Ignored, Boxed, NotBoxed, Gain, NoGain, Short, Rebuilt, Failed}
+use Rattle.runs.proofs.Each.{all_weaker}
 use Rattle.runs.proofs.Tallies.{flag}
 use Rattle.enough.proofs.Draws.{Grown, SoundHere, good_here}
 use Rattle.enough.proofs.Held.{GivenTo, Lost, Settled}
 
 -- a larger bound holds too
-cached_above_more : (m n : ℕ) (o : Outcome) → m ≤ n → CachedAbove m o → CachedAbove n o
-cached_above_more m n (Short k) h a = le_trans a h
-cached_above_more m n (Failed k e) h a = le_trans a h
-cached_above_more m n (Rebuilt k) h a = tt
-cached_above_more m n NoEpoch h a = tt
-cached_above_more m n NoMember h a = tt
-cached_above_more m n OtherEpoch h a = tt
-cached_above_more m n LeaderStands h a = tt
-cached_above_more m n Declined h a = tt
-cached_above_more m n Held h a = tt
-cached_above_more m n Cached h a = tt
-cached_above_more m n Ignored h a = tt
-cached_above_more m n Boxed h a = tt
-cached_above_more m n NotBoxed h a = tt
-cached_above_more m n Gain h a = tt
-cached_above_more m n NoGain h a = tt
-
 pub ended_above_more : (m n : ℕ) (x : Answer) → m ≤ n → EndedAbove m x → EndedAbove n x
-ended_above_more m n (answered o rs act) h a = cached_above_more m n o h a
-ended_above_more m n (refused r) h a = tt
-ended_above_more m n changed_peers h a = tt
-ended_above_more m n (given b) h a = tt
-ended_above_more m n (told b) h a = tt
+ended_above_more m n x h a = grind arith
 
 -- a commitment's minimum is not zero
 pub some-minimum : (c : List ℕ) → is_commitment c ≡ true → 1 ≤ minimum_of c
-some-minimum c =
-    let low = cond (eqb (config_of c).extra 0) (Err ZeroExtra) (Ok c) in
-    cond_both (eqb (length c) 100) (cond (eqb (config_of c).minimum 0) (Err ZeroMinimum) low) (Err Length) (λ r. is_ok r ≡ true → 1 ≤ minimum_of c)
-    (λ _. cond_both (eqb (config_of c).minimum 0) (Err ZeroMinimum) low (λ r. is_ok r ≡ true → 1 ≤ minimum_of c)
-    (λ _ h. absurd (both_ways false refl h))
-    (λ f _. let z = eqb-false (config_of c).minimum 0 f in omega arith))
-    (λ _ h. absurd (both_ways false refl h))
+some-minimum c = grind arith
 
 unset : (n i : ℕ) → get_or (replicate n false) i false ≡ false
 unset zero i = refl
@@ -84,11 +53,7 @@ module _ (limits : Limits) (m : Meaning) (a : Assignment) (c : List ℕ) (ep : �
     sound = grown.sound;
     losses = losses;
     settled = grown.settled;
-    ended = (
-      ends,
-      All-weaker (λ x. Completing c x.call → EndedAbove (length live.lost) x.answer) (λ x. Completing c x.call → EndedAbove (length more) x.answer)
-          (λ y h is. ended_above_more (length live.lost) (length more) y.answer longer (h is)) es live.ended,
-    );
+    ended = grind (arith, all_weaker, ended_above_more);
     gave = λ k s handed at good. ⊎_elim (λ h. gets k s h.0 h.1 at good) (λ h. grown.grows s.index (live.gave k s h at good)) handed;
     proper = live.proper;
     rising = live.rising;
@@ -96,16 +61,7 @@ module _ (limits : Limits) (m : Meaning) (a : Assignment) (c : List ℕ) (ep : �
 
   -- a record that has just come in
   pub entered_live : (x₀ r : Rec) → Grown limits m a c ep Hand [] x₀ r → is_commitment c ≡ true → ascending (a.keys ep) ≡ true → Live [] r
-  entered_live x₀ r grown proper rising = record {
-    lost = [];
-    sound = grown.sound;
-    losses = tt;
-    settled = grown.settled;
-    ended = tt;
-    gave = λ k s handed at good. absurd handed;
-    proper = proper;
-    rising = rising;
-  }
+  entered_live x₀ r grown proper rising = grind arith
 
   pub new_grown : (round : Round) (leader : Option (List ℕ)) → is_commitment c ≡ true → Grown limits m a c ep Hand [] (new_record c round leader) (new_record c round leader)
   new_grown round leader proper = record {

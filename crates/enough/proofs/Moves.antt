@@ -1,7 +1,7 @@
 -- A call that leaves the record of a commitment alone, replaces it, or lets one in; and box intake for it.
-use Rattle.std.proofs.Common.{◌≡◌, ℕ, Bool, true, false, ◌⊎◌, List, [], ◌∷◌, length, is_some, Some, None, Option, sym, refl, ap, ◌∙◌, subst, inl, inr, arith}
+use Rattle.std.proofs.Common.{◌≡◌, ℕ, true, List, [], ◌∷◌, is_some, Some, None, Option, sym, ap, ◌∙◌, subst, ⊎_elim, arith}
 use Rattle.std.proofs.lemmas.Slice.Eq.{bytes_eq-Decides}
-use Rattle.std.proofs.ByRecursion.{All-weaker}
+use Rattle.std.proofs.lemmas.Bool.{cases_Bool, iff_false}
 use Rattle.std.proofs.lemmas.Option.{same_Some}
 use Rattle.std.specs.List.{AllByRecursion}
 use Rattle.std.specs.Str.{bytes_eq}
@@ -17,17 +17,16 @@ use Rattle.model.specs.Promises.{Completing, EndedAbove}
 use Rattle.model.specs.State.{Limits, Peer, Rec, State, filed_under, record_of}
 use Rattle.model.specs.Steps.{Step, advanced, all_taken, began, entered, replaced, wants}
 use Rattle.runs.proofs.Boxes.{Filled, drawn_brought}
+use Rattle.runs.proofs.Each.{all_weaker}
 use Rattle.runs.proofs.Entries.{differ, entry_laws, replaced_ascends, replaced-found, replaced_others}
 use Rattle.enough.proofs.Draws.{Grown, SoundHere, advanced_grown, good_here, known, row_all, row-began}
 use Rattle.enough.proofs.Held.{GivenTo, Settled}
-use Rattle.enough.proofs.Live.{Live, next}
+use Rattle.enough.proofs.Live.{Live}
 
-pub cases_same : (x y : List ℕ) → (x ≡ y) ⊎ (x ≡ y → ⊥)
-cases_same x y = go (bytes_eq x y) refl
-  where
-    go : (b : Bool) → bytes_eq x y ≡ b → (x ≡ y) ⊎ (x ≡ y → ⊥)
-    go true t = inl ((bytes_eq-Decides x y).0 t)
-    go false f = inr (λ same. let z : ◌≡◌ {A = Bool} true false = sym ((bytes_eq-Decides x y).1 same) ∙ f in let w : ◌≡◌ {A = ℕ} 0 1 = cc in omega arith)
+-- a call is for the commitment c or for another
+pub by_commitment : (P : List ℕ → Type 0) (d c : List ℕ) → P c → ((d ≡ c → ⊥) → P d) → P d
+by_commitment P d c here there =
+    ⊎_elim (λ t. subst P (sym ((bytes_eq-Decides d c).0 t)) here) (λ f. there (iff_false (bytes_eq-Decides d c) f)) (cases_Bool (bytes_eq d c))
 
 -- an entry of a box for the commitment was handed in by the box's peer
 abbrev pub For : List ℕ → (List ℕ → Indexed → Type 0) → List ℕ → List ℕ → Indexed → Type 0
@@ -61,8 +60,7 @@ module _ (limits : Limits) (m : Meaning) (a : Assignment) (c : List ℕ) (ep : �
       (Completing c call → (n : ℕ) → EndedAbove n answer) →
       ((k : List ℕ) (x : Indexed) → Counts answer → Brings c k x call → index k (a.keys ep) ≡ Some x.index → good_here limits m a c ep Hand x ≡ true → GivenTo old x.index) →
       Live limits m a c ep Hand (event answer ∷ es) old
-  stayed answer old live ends gets =
-      next limits m a c ep Hand es (event answer) old old live live.lost (record { sound = live.sound; settled = live.settled; grows = λ i h. h }) live.losses (omega arith) (λ is. ends is (length live.lost)) gets
+  stayed answer old live ends gets = grind arith
 
   pub elsewhere : (t : Step) → Silent t.answer → OwnBoxes c Hand t.state.peers → Ascends order filed_under t.state.records → record_of c t.state ≡ record_of c s → Fine t
   elsewhere t silent boxes up same = record {
@@ -79,15 +77,13 @@ module _ (limits : Limits) (m : Meaning) (a : Assignment) (c : List ℕ) (ep : �
         (old.round.epoch.0 ≡ ep → is_some (roster.keys ep) ≡ true → Live limits m a c ep Hand es old → Live limits m a c ep Hand (event answer ∷ es) x) →
         Fine (record { state = record { records = replaced x s.records; peers = ps }; answer = answer })
     placed old x ps answer at named same boxes goes =
-        let there : look order filed_under x.commitment s.records ≡ Some old = subst (λ d. look order filed_under d s.records ≡ Some old) (sym named) at in
+        let there : look order filed_under x.commitment s.records ≡ Some old = grind arith in
         let found : look order filed_under c (replaced x s.records) ≡ Some x = subst (λ d. look order filed_under d (replaced x s.records) ≡ Some x) named (replaced-found filed_under x s.records old there) in
         record {
           boxes = boxes;
           ascend = replaced_ascends filed_under x s.records up;
           moved = λ r now in_epoch_now.
-              let is = same_Some x r (sym found ∙ now) in
-              let old_ep : old.round.epoch.0 ≡ ep = sym same ∙ ap (λ r. r.round.epoch.0) is ∙ in_epoch_now in
-              subst (λ o. Moved o answer r) (sym at) (old_ep, λ known live. subst (λ r. Live limits m a c ep Hand (event answer ∷ es) r) is (goes old_ep known live));
+              grind (arith, same_Some, known);
         }
 
     -- a record that comes in
@@ -95,14 +91,13 @@ module _ (limits : Limits) (m : Meaning) (a : Assignment) (c : List ℕ) (ep : �
         (x.round.epoch.0 ≡ ep → Live limits m a c ep Hand [] x) →
         Fine (record { state = record { records = entered x s.records; peers = ps }; answer = answer })
     let_in x ps answer at named boxes goes =
-        let there : look order filed_under x.commitment s.records ≡ None = subst (λ d. look order filed_under d s.records ≡ None) (sym named) at in
+        let there : look order filed_under x.commitment s.records ≡ None = grind arith in
         let found : look order filed_under c (entered x s.records) ≡ Some x = subst (λ d. look order filed_under d (entered x s.records) ≡ Some x) named ((entry_laws filed_under).put_found x s.records there) in
         record {
           boxes = boxes;
           ascend = (entry_laws filed_under).put_ascends x s.records up;
           moved = λ r now in_epoch_now.
-              let is = same_Some x r (sym found ∙ now) in
-              subst (λ o. Moved o answer r) (sym at) (subst (λ r. Live limits m a c ep Hand [] r) is (goes (ap (λ r. r.round.epoch.0) is ∙ in_epoch_now)));
+              grind (arith, same_Some);
         }
 
     -- a record of another commitment, replaced or let in
@@ -121,7 +116,7 @@ module _ (limits : Limits) (m : Meaning) (a : Assignment) (c : List ℕ) (ep : �
       Grown limits m a c ep Hand lost x (advanced (all_taken limits m roster ks x.round.epoch.0 (began x) (all_drawn (wants limits m roster ks x) s.peers)))
   box_grown agrees boxes lost x ks named in_epoch_now at sound settled =
       let knows = known a ep roster ks agrees (ap roster.keys (sym in_epoch_now) ∙ at) in
-      let drawn = All-weaker (λ p. For c Hand x.commitment p.sender p.shard) (λ p. Hand p.sender p.shard) (λ p handed. handed named) (all_drawn (wants limits m roster ks x) s.peers)
+      let drawn = all_weaker (λ p. For c Hand x.commitment p.sender p.shard) (λ p. Hand p.sender p.shard) (λ p handed. handed named) (all_drawn (wants limits m roster ks x) s.peers)
       (drawn_brought (For c Hand) x.commitment (is_some x.leader) ks s.peers boxes) in
       let row = row_all limits m a c ep Hand roster ks knows lost x (began x) (all_drawn (wants limits m roster ks x) s.peers) drawn (row-began limits m a c ep Hand lost x named sound) in
       subst (λ n. Grown limits m a c ep Hand lost x (advanced (all_taken limits m roster ks n (began x) (all_drawn (wants limits m roster ks x) s.peers)))) (sym in_epoch_now)

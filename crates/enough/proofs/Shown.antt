@@ -1,12 +1,10 @@
 -- The run of the example, computed.
-use Rattle.std.proofs.Common.{◌≡◌, ℕ, true, ◌⊎◌, List, [], ◌∷◌, Some, Ok, sym, refl, ◌∙◌, ap, subst, inl, inr, ⊎_elim, arith}
-use Rattle.std.proofs.lemmas.Bool.{both_ways}
+use Rattle.std.proofs.Common.{◌≡◌, ℕ, ◌⊎◌, List, [], ◌∷◌, Ok, sym, refl, ◌∙◌, ap, inl, inr, arith}
 use Rattle.scheme.specs.Pieces.{Indexed}
 use Rattle.model.specs.Calls.{Call, block_look_up, completion, discovery, shard}
 use Rattle.model.specs.Histories.{Agrees, Announced, HandedIn, Leads}
 use Rattle.model.specs.Intake.{intake}
 use Rattle.model.specs.Jobs.{completes, tries}
-use Rattle.model.specs.Meaning.{good_for}
 use Rattle.model.specs.Promises.{GoodShard, OpensToBlock, Sufficient}
 use Rattle.model.specs.State.{State, fresh}
 use Rattle.model.specs.Steps.{completion_of, discovery_of, shard_of, step}
@@ -52,40 +50,30 @@ Sent k x =
 
 -- what was handed in, for which commitment and by whom
 sent : (c k : List ℕ) (x : Indexed) → HandedIn Example.history c k x → (Example.commitment ≡ c) × Sent k x
-sent c k x =
-    ⊎_elim (λ h. absurd h.1) (⊎_elim (λ h. absurd h.1) (⊎_elim (λ h. (h.1.0, inr (inl (h.1.1, h.1.2)))) (⊎_elim (λ h. absurd h.1)
-    (⊎_elim (λ h. (h.1.0, inl (h.1.1, h.1.2))) (⊎_elim (λ h. (h.1.0, inr (inr (h.1.1, h.1.2)))) (⊎_elim (λ h. absurd h.1) (λ h. absurd h)))))))
+sent c k x h = grind arith
 
 -- the commitment was announced, with one epoch
 announced : (c : List ℕ) (e : ℕ) → Announced Example.history c e → (Example.commitment ≡ c) × (7 ≡ e)
-announced c e =
-    ⊎_elim (λ h. absurd h.1) (⊎_elim (λ h. absurd h.1) (⊎_elim (λ h. absurd h.1) (⊎_elim (λ h. absurd h.1)
-    (⊎_elim (λ h. absurd h.1) (⊎_elim (λ h. absurd h.1) (⊎_elim (λ h. h.1) (λ h. absurd h)))))))
+announced c e h = grind arith
 
 -- all that the first key handed in is its own shard
 own : (c : List ℕ) (x : Indexed) → HandedIn Example.history c Example.first_key x → (Example.commitment ≡ c) × (Example.good_at 0 ≡ x)
-own c x h =
-    let s = sent c Example.first_key x h in
-    (s.0, ⊎_elim (λ f. f.1) (⊎_elim (λ f. cc f.0) (λ f. cc f.0)) s.1)
+own c x h = grind (arith, sent)
 
 -- what was handed in is the bad shard, or the blob
 either : (k : List ℕ) (x : Indexed) → HandedIn Example.history Example.commitment k x → (Example.bad ≡ x) ⊎ (Example.blob ≡ x.bytes)
-either k x h =
-    ⊎_elim (λ f. inr (ap (λ x. x.bytes) f.1)) (⊎_elim (λ f. inr (ap (λ x. x.bytes) f.1)) (λ f. inl f.1)) (sent Example.commitment k x h).1
+either k x h = grind (arith, sent)
 
 opens : (shards : List Indexed) → Sufficient Example.limits Example.meaning Example.assignment Example.history Example.commitment shards →
     OpensToBlock Example.limits Example.meaning Example.assignment Example.history Example.commitment shards
 opens [] s = absurd (omega (arith, s.many))
 opens (x ∷ xs) s =
-    let passes = s.each.0.good in
-    let same : Example.blob ≡ x.bytes = ⊎_elim
-    (λ is. absurd (both_ways (good_for Example.meaning 100 Example.commitment Example.bad) refl (subst (λ x. good_for Example.meaning 100 Example.commitment x ≡ true) (sym is) passes)))
-    (λ is. is) (either s.each.0.sender x s.each.0.handed) in
+    let same : Example.blob ≡ x.bytes = grind (arith, s.each.0.good, either s.each.0.sender x s.each.0.handed) in
     record { blob = Example.blob; reading = Example.whole Example.blob; opens = ap Ok (sym same); fits = refl }
 
 -- nothing else was handed in at a place below the bad one
 only : (k : List ℕ) (i : ℕ) (others : List ℕ) → (2 ≡ i → ⊥) → HandedIn Example.history Example.commitment k (record { index = i; bytes = others }) → others ≡ Example.blob
-only k i others low h = ⊎_elim (λ is. absurd (low (ap (λ x. x.index) is))) (λ is. sym is) (either k (record { index = i; bytes = others }) h)
+only k i others low h = grind (arith, either)
 
 pub example : Example.ExampleStands
 example = (
@@ -99,27 +87,20 @@ example = (
       record { member = omega arith; bytes = Example.blob; good = refl; handed = inr (inr (inr (inr (inl (tt, (refl, refl, refl)))))); only = λ others h. only Example.first_key 0 others (omega arith) h },
       (record { member = omega arith; bytes = Example.blob; good = refl; handed = inr (inr (inl (tt, (refl, refl, refl)))); only = λ others h. only Example.second_key 1 others (omega arith) h }, tt),
     );
-    known = (refl, (refl, (refl, (refl, (refl, (refl, tt))))));
+    known = grind arith;
     opens = opens;
   },
 )
 
 -- a good shard is the blob at its index
 blob_at : (c : List ℕ) (x : Indexed) → GoodShard Example.limits Example.meaning Example.assignment Example.history c x → Example.good_at x.index ≡ x
-blob_at c x g =
-    let s = sent c g.sender x g.handed in
-    let passes : good_for Example.meaning 100 Example.commitment x ≡ true = subst (λ c. good_for Example.meaning 100 c x ≡ true) (sym s.0) g.good in
-    let spelled : (i : ℕ) → Example.good_at i ≡ x → Example.good_at x.index ≡ x = λ i is. subst (λ x. Example.good_at x.index ≡ x) is refl in
-    ⊎_elim (λ f. spelled 0 f.1) (⊎_elim (λ f. spelled 1 f.1)
-    (λ f. absurd (both_ways (good_for Example.meaning 100 Example.commitment Example.bad) refl (subst (λ x. good_for Example.meaning 100 Example.commitment x ≡ true) (sym f.1) passes)))) s.1
+blob_at c x g = grind (arith, sent)
 
 pub blameless : Example.BlamelessStands
 blameless = record {
   member = λ c e a. refl;
   once = λ c e f a b. sym (announced c e a).1 ∙ (announced c f b).1;
-  good = λ c e s a h.
-      subst (λ x. good_for Example.meaning 100 x s ≡ true) (own c s h).0
-      (subst (λ x. good_for Example.meaning 100 Example.commitment x ≡ true) (own c s h).1 refl);
-  placed = λ c e s a h. inl (ap (λ x. Some x.index) (own c s h).1);
-  alike = λ c s t g f is. sym (blob_at c s g) ∙ ap Example.good_at is ∙ blob_at c t f;
+  good = λ c e s a h. grind (arith, own);
+  placed = λ c e s a h. grind (arith, own);
+  alike = λ c s t g f is. grind (arith, blob_at);
 }

@@ -1,26 +1,25 @@
 -- Intake keeps a record sound, and a member's good shard at its own index has then contributed there.
 use Rattle.std.proofs.Common.{◌≡◌, ℕ, ◌<◌, ◌≤◌, Bool, true, false, cond, eqb, List, [], ◌∷◌, ◌++◌, length, get_or, set, Some, None, Option, Equal, sym, refl, ap, ◌∙◌, arith, length-set}
-use Rattle.std.proofs.ByRecursion.{All-push, All-weaker}
-use Rattle.std.proofs.lemmas.Bool.{and_parts, both_ways, cond_both, eq-eqb, eqb-true}
+use Rattle.std.proofs.lemmas.Bool.{both_ways, cond_both}
+use Rattle.std.proofs.lemmas.List.{get_or-set_same}
 use Rattle.std.proofs.lemmas.Option.{same_Some}
-use Rattle.std.specs.Str.{bytes_eq}
 use Rattle.register.specs.ByteOrder.{order_same}
 use Rattle.register.specs.Order.{order}
 use Rattle.rosters.specs.Sound.{index}
 use Rattle.scheme.specs.Pieces.{Indexed}
 use Rattle.table.proofs.Carried.{all_look, all_put}
 use Rattle.table.proofs.Lawful.{found_exactly}
-use Rattle.model.specs.Intake.{Class, assigned, owned, stray, Taken, arrives, checks, classed, dropped, from_member, index_of, is_assigned, leads, led, received_at, rejected, sender_of, unless_contributed, unless_received, verifies, waits, with_pending, with_received}
-use Rattle.model.specs.State.{Phase, awaiting, cached, Rec, Sent, Shards, with_phase}
+use Rattle.model.specs.Intake.{Action, Class, acts, assigned, contributes, owned, stray, Taken, arrives, classed, dropped, from_member, index_of, is_assigned, led, received_at, rejected, sender_of, unless_contributed, unless_received, verifies, waits, with_pending, with_received}
+use Rattle.model.specs.State.{Phase, awaiting, cached, Rec, Sent, Shards, with_contribution, with_phase}
 use Rattle.model.specs.declared.answer.Reason.{Reason}
-use Rattle.model.specs.declared.answer.Reason.TheVariants.{Stranger, WrongIndex, Equivocation, BadAssigned}
-use Rattle.runs.proofs.Entries.{by_option, never_some, number_laws, number_same}
+use Rattle.model.specs.declared.answer.Reason.TheVariants.{Stranger, WrongIndex}
+use Rattle.runs.proofs.Each.{all_append, all_weaker, all_with}
+use Rattle.runs.proofs.Entries.{by_option, number_laws, number_same}
 use Rattle.runs.proofs.Places.{index_below}
 use Rattle.runs.proofs.Records.{sent_at}
-use Rattle.runs.proofs.Tallies.{flag, flag_kept, flag_raised, tally, tally_append}
-use Rattle.enough.proofs.Counting.{itself, none_here}
-use Rattle.enough.proofs.Flags.{all_with, put_tally, set_bit}
-use Rattle.enough.proofs.Held.{Checked, GivenTo, InPhase, Pending, Sound, Waiting}
+use Rattle.runs.proofs.Tallies.{flag, flag_kept, flag_set, none_there, tally, tally_append, tally_put_new}
+use Rattle.enough.proofs.Counting.{itself}
+use Rattle.enough.proofs.Held.{GivenTo, InPhase, Pending, Sound, Waiting}
 use Rattle.std.specs.Ordering.{nat_cmp}
 
 module _ (good : Indexed → Bool) (minimum : ℕ) (keys : List (List ℕ)) (own : Option ℕ) (Hand : List ℕ → Indexed → Type 0) where
@@ -35,13 +34,13 @@ module _ (good : Indexed → Bool) (minimum : ℕ) (keys : List (List ℕ)) (own
       let none : tally sent_at i w.pending ≡ 0 = let t = k.tallied i in let b : flag (get_or flags i false) ≡ 0 = rw off in omega arith in
       let new = all_with (Pending good minimum keys own Hand) (λ x. i ≡ sent_at x → ⊥) (λ x. order x.sender sender ≡ Equal → ⊥)
       (λ x h n q. n (same_Some i (sent_at x) (sym place ∙ ap (λ a. index a keys) (sym (order_same x.sender sender q)) ∙ h.place)))
-      w.pending k.pending (none_here sent_at i w.pending none) in
+      w.pending k.pending (none_there sent_at i w.pending none) in
       record {
         long = length-set flags i true ∙ k.long;
         assigned = λ v j o. flag_kept flags i j (k.assigned v j o);
-        tallied = λ j. let t = k.tallied j in let b = set_bit flags i j inside off in let n = put_tally order sender_of sent_at j p w.pending new in omega arith;
-        received = all_put nat_cmp index_of (λ x. get_or (set flags i true) x.index false ≡ true) s w.received (flag_raised flags i inside)
-            (All-weaker _ (λ x. get_or (set flags i true) x.index false ≡ true) (λ x h. flag_kept flags i x.index h) w.received k.received);
+        tallied = λ j. let t = k.tallied j in let b = flag_set flags i j inside off in let n = tally_put_new sent_at order sender_of j p w.pending new in omega arith;
+        received = all_put nat_cmp index_of (λ x. get_or (set flags i true) x.index false ≡ true) s w.received (get_or-set_same flags i true false inside)
+            (all_weaker _ (λ x. get_or (set flags i true) x.index false ≡ true) (λ x h. flag_kept flags i x.index h) w.received k.received);
         checked = k.checked;
         pending = all_put order sender_of (Pending good minimum keys own Hand) p w.pending (record { handed = handed; place = place }) k.pending;
         job = k.job;
@@ -57,11 +56,11 @@ module _ (good : Indexed → Bool) (minimum : ℕ) (keys : List (List ℕ)) (own
       let inside : i < length flags = omega (arith, k.long) in
       record {
         long = length-set flags i true ∙ k.long;
-        assigned = λ v j o. rw (← (mine j o)) (flag_raised flags i inside);
-        tallied = λ j. let t = k.tallied j in let b = set_bit flags i j inside off in let n = tally_append index_of j w.checked (s ∷ []) in omega arith;
-        received = all_put nat_cmp index_of (λ x. get_or (set flags i true) x.index false ≡ true) s w.received (flag_raised flags i inside)
-            (All-weaker _ (λ x. get_or (set flags i true) x.index false ≡ true) (λ x h. flag_kept flags i x.index h) w.received k.received);
-        checked = All-push (Checked good minimum keys own Hand) w.checked s k.checked (record { passes = passes; key = sender; handed = handed });
+        assigned = λ v j o. grind (arith, get_or-set_same);
+        tallied = λ j. grind (arith, flag_set, tally_append);
+        received = all_put nat_cmp index_of (λ x. get_or (set flags i true) x.index false ≡ true) s w.received (get_or-set_same flags i true false inside)
+            (all_weaker _ (λ x. get_or (set flags i true) x.index false ≡ true) (λ x h. flag_kept flags i x.index h) w.received k.received);
+        checked = grind (arith, all_append);
         pending = k.pending;
         job = k.job;
       }
@@ -73,119 +72,75 @@ module _ (good : Indexed → Bool) (minimum : ℕ) (keys : List (List ℕ)) (own
     pub gets : index sender keys ≡ Some s.index → good s ≡ true → GivenTo t.rec s.index
     pub still : t.gained ≡ false → t.rec ≡ r
     pub commitment : t.rec.commitment ≡ r.commitment
-    pub round : t.rec.round ≡ r.round
-    pub leader : t.rec.leader ≡ r.leader
 
   module _ (few : length keys ≤ 64) (mine : (i : ℕ) → own ≡ Some i → i < length keys) (lost : List ℕ) (sender : List ℕ) (s : Indexed) (handed : Hand sender s) where
     unmoved : (r : Rec) (report : Option Reason) → Sound good minimum keys own Hand lost r →
         (index sender keys ≡ Some s.index → good s ≡ true → GivenTo r s.index) →
         Took lost sender s r (record { rec = r; report = report; action = None; gained = false })
-    unmoved r report k gets = record { sound = k; grows = λ i h. h; gets = gets; still = λ _. refl; commitment = refl; round = refl; leader = refl }
+    unmoved r report k gets = grind arith
 
     -- a stray shard is at nobody's index, a bad one is not good
     unmoved_led : (r : Rec) (l : Option (List ℕ)) → Sound good minimum keys own Hand lost r →
         (index sender keys ≡ Some s.index → good s ≡ true → GivenTo r s.index) →
         Took lost sender s r (led l (rejected WrongIndex r) (dropped r))
-    unmoved_led r None k gets = unmoved r None k gets
-    unmoved_led r (Some l) k gets = unmoved r (Some WrongIndex) k gets
+    unmoved_led r l k gets = grind arith
 
     module _ (r : Rec) (w : Shards) (k : InPhase good minimum keys own Hand r.contributed r.verified r.completions lost (awaiting w)) where
+      -- the index contributes
+      gains : (v : Shards) (verified : Bool) (action : Option Action) → Sound good minimum keys own Hand lost (with_contribution (contributes s r) verified (awaiting v) r) → s.index < 64 →
+          Took lost sender s (with_phase (awaiting w) r) (record { rec = with_contribution (contributes s r) verified (awaiting v) r; report = None; action = action; gained = true })
+      gains v verified action sound within = record {
+        sound = sound;
+        grows = λ i h. flag_kept r.contributed s.index i h;
+        gets = λ _ _. get_or-set_same r.contributed s.index true false (omega (arith, k.0.long));
+        still = λ e. absurd (both_ways true e refl);
+        commitment = refl;
+      }
+
       waited : get_or r.contributed s.index false ≡ false → index sender keys ≡ Some s.index → Took lost sender s (with_phase (awaiting w) r) (waits sender s w (with_phase (awaiting w) r))
       waited off place =
-          let below = index_below sender keys s.index place in
-          let inside : s.index < length r.contributed = omega (arith, k.0.long) in
-          record {
-            sound = (waits_keeps r.contributed r.verified w lost sender s k.0 off (omega arith) handed place, k.1);
-            grows = λ i h. flag_kept r.contributed s.index i h;
-            gets = λ _ _. flag_raised r.contributed s.index inside;
-            still = λ e. absurd (both_ways true e refl);
-            commitment = refl;
-            round = refl;
-            leader = refl;
-          }
+          let within : s.index < 64 = let b = index_below sender keys s.index place in omega arith in
+          gains (with_pending (record { sender = sender; shard = s }) w) r.verified None (waits_keeps r.contributed r.verified w lost sender s k.0 off within handed place, k.1) within
 
       -- a received index has contributed
       unless_got : (next : Taken) → (get_or r.contributed s.index false ≡ false → Took lost sender s (with_phase (awaiting w) r) next) →
           Took lost sender s (with_phase (awaiting w) r) (unless_received (received_at s.index w) s (with_phase (awaiting w) r) (unless_contributed s (with_phase (awaiting w) r) next))
-      unless_got next go =
-          by_option (λ o. Took lost sender s (with_phase (awaiting w) r) (unless_received o s (with_phase (awaiting w) r) (unless_contributed s (with_phase (awaiting w) r) next))) (received_at s.index w)
-          (λ _. cond_both (get_or r.contributed s.index false) (dropped (with_phase (awaiting w) r)) next (Took lost sender s (with_phase (awaiting w) r))
-          (λ on. unmoved (with_phase (awaiting w) r) None k (λ _ _. on)) go)
-          (λ x found.
-          let same = found_exactly nat_cmp index_of number_laws number_same s.index w.received x found in
-          let on : get_or r.contributed s.index false ≡ true = rw (← same) (all_look nat_cmp index_of (λ x. get_or r.contributed x.index false ≡ true) s.index w.received x found k.0.received) in
-          cond_both (bytes_eq x.bytes s.bytes) (dropped (with_phase (awaiting w) r)) (rejected Equivocation (with_phase (awaiting w) r)) (Took lost sender s (with_phase (awaiting w) r))
-          (λ _. unmoved (with_phase (awaiting w) r) None k (λ _ _. on))
-          (λ _. unmoved (with_phase (awaiting w) r) (Some Equivocation) k (λ _ _. on)))
+      unless_got next go = grind (arith, unmoved, found_exactly, number_laws, number_same, all_look)
 
       -- an assigned shard stands at the own index, or at its sender's
       verified_in : get_or r.contributed s.index false ≡ false → good s ≡ true → s.index < 64 → ((i : ℕ) → own ≡ Some i → s.index ≡ i) →
           Took lost sender s (with_phase (awaiting w) r) (verifies own s (with_phase (awaiting w) r))
       verified_in off passes within at =
-          let inside : s.index < length r.contributed = omega (arith, k.0.long) in
-          record {
-            sound = (joins_keeps r.contributed r.verified w lost sender s k.0 off within handed passes at, k.1);
-            grows = λ i h. flag_kept r.contributed s.index i h;
-            gets = λ _ _. flag_raised r.contributed s.index inside;
-            still = λ e. absurd (both_ways true e refl);
-            commitment = refl;
-            round = refl;
-            leader = refl;
-          }
+          gains (with_received s (w.checked ++ s ∷ []) w) true (Some (acts own s)) (joins_keeps r.contributed r.verified w lost sender s k.0 off within handed passes at, k.1) within
 
       before : (place : ℕ) → index sender keys ≡ Some place →
           Took lost sender s (with_phase (awaiting w) r) (arrives good own sender s (with_phase (awaiting w) r) (awaiting w) (classed own r.leader sender place s.index))
       before place at =
           cond_both (is_assigned own r.leader sender place s.index) assigned (cond (eqb s.index place) owned stray)
           (λ cl. Took lost sender s (with_phase (awaiting w) r) (arrives good own sender s (with_phase (awaiting w) r) (awaiting w) cl))
-          (λ is. unless_got _ (λ off.
-          cond_both r.verified (waits sender s w (with_phase (awaiting w) r)) (checks (good s) own s (with_phase (awaiting w) r)) (Took lost sender s (with_phase (awaiting w) r))
-          (λ on. waited off (by_own own refl is on off))
-          (λ _. cond_both (good s) (verifies own s (with_phase (awaiting w) r)) (rejected BadAssigned (with_phase (awaiting w) r)) (Took lost sender s (with_phase (awaiting w) r))
-          (λ passes. verified_in off passes (inside own refl is) (at_own own refl is))
-          (λ fails. unmoved (with_phase (awaiting w) r) (Some BadAssigned) k (λ _ passes. absurd (both_ways (good s) fails passes))))))
-          (λ _. cond_both (eqb s.index place) owned stray
-          (λ cl. Took lost sender s (with_phase (awaiting w) r) (arrives good own sender s (with_phase (awaiting w) r) (awaiting w) cl))
-          (λ is. unless_got _ (λ off. waited off (at ∙ ap Some (sym (eqb-true s.index place is)))))
-          (λ not. unmoved_led (with_phase (awaiting w) r) r.leader k
-          (λ here _. absurd (both_ways (eqb s.index place) not (eq-eqb s.index place (same_Some s.index place (sym here ∙ at)))))))
+          (λ is. grind (arith, unless_got, waited, by_own is, verified_in, inside is, at_own is, unmoved))
+          (λ _. grind (arith, unless_got, waited, unmoved_led))
         where
-          by_own : (o : Option ℕ) → own ≡ o → is_assigned o r.leader sender place s.index ≡ true → r.verified ≡ true → get_or r.contributed s.index false ≡ false → index sender keys ≡ Some s.index
-          by_own None e is on off = at ∙ ap Some (sym (eqb-true s.index place (and_parts (leads r.leader sender) (eqb s.index place) is).1))
-          by_own (Some i) e is on off =
-              let same = eqb-true s.index i is in
-              absurd (both_ways (get_or r.contributed s.index false) off (rw same (k.0.assigned on i e)))
+          by_own : is_assigned own r.leader sender place s.index ≡ true → r.verified ≡ true → get_or r.contributed s.index false ≡ false → index sender keys ≡ Some s.index
+          by_own is on off = grind (arith, k.0.assigned on)
 
-          inside : (o : Option ℕ) → own ≡ o → is_assigned o r.leader sender place s.index ≡ true → s.index < 64
-          inside None e is = let same = eqb-true s.index place (and_parts (leads r.leader sender) (eqb s.index place) is).1 in let b = index_below sender keys place at in omega arith
-          inside (Some i) e is = let same = eqb-true s.index i is in let b = mine i e in omega arith
+          inside : is_assigned own r.leader sender place s.index ≡ true → s.index < 64
+          inside is = grind (arith, index_below, mine)
 
-          at_own : (o : Option ℕ) → own ≡ o → is_assigned o r.leader sender place s.index ≡ true → (i : ℕ) → own ≡ Some i → s.index ≡ i
-          at_own None e is i f = never_some i (s.index ≡ i) (sym e ∙ f)
-          at_own (Some j) e is i f = eqb-true s.index j is ∙ same_Some j i (sym e ∙ f)
+          at_own : is_assigned own r.leader sender place s.index ≡ true → (i : ℕ) → own ≡ Some i → s.index ≡ i
+          at_own is i f = grind arith
 
     -- behind the block nothing is asked of a record any more
     after : (r : Rec) (blob : List ℕ) → ((i : ℕ) → tally itself i lost ≤ 1) → (cl : Class) →
         Took lost sender s (with_phase (cached blob) r) (arrives good own sender s (with_phase (cached blob) r) (cached blob) cl)
-    after r blob k stray = unmoved_led (with_phase (cached blob) r) r.leader k (λ _ _. tt)
-    after r blob k owned = unmoved (with_phase (cached blob) r) None k (λ _ _. tt)
-    after r blob k assigned =
-        let q = with_phase (cached blob) r in
-        cond_both (get_or r.contributed s.index false) (dropped q) (cond r.verified (dropped q) (checks (good s) own s q)) (Took lost sender s q)
-        (λ _. unmoved q None k (λ _ _. tt))
-        (λ _. cond_both r.verified (dropped q) (checks (good s) own s q) (Took lost sender s q)
-        (λ _. unmoved q None k (λ _ _. tt))
-        (λ _. cond_both (good s) (verifies own s q) (rejected BadAssigned q) (Took lost sender s q)
-        (λ _. record { sound = k; grows = λ i h. tt; gets = λ _ _. tt; still = λ e. absurd (both_ways true e refl); commitment = refl; round = refl; leader = refl })
-        (λ _. unmoved q (Some BadAssigned) k (λ _ _. tt))))
+    after r blob k cl = grind arith
 
     arrived : (r : Rec) (ph : Phase) (place : ℕ) → InPhase good minimum keys own Hand r.contributed r.verified r.completions lost ph → index sender keys ≡ Some place →
         Took lost sender s (with_phase ph r) (arrives good own sender s (with_phase ph r) ph (classed own r.leader sender place s.index))
-    arrived r (awaiting w) place k at = before r w k place at
-    arrived r (cached blob) place k at = after r blob k (classed own r.leader sender place s.index)
+    arrived r ph place k at = grind (arith, before, after)
 
     pub taken_in : (r : Rec) → Sound good minimum keys own Hand lost r → Took lost sender s r (from_member good own sender s r (index sender keys))
     taken_in r k =
         by_option (λ o. Took lost sender s r (from_member good own sender s r o)) (index sender keys)
-        (λ e. unmoved r (Some Stranger) k (λ here _. never_some s.index (GivenTo r s.index) (sym e ∙ here)))
+        (λ e. unmoved r (Some Stranger) k (λ here _. cc))
         (λ place at. arrived r r.phase place k at)

@@ -2,15 +2,11 @@
 ghost use Rattle.enough.specs.Example.{BlamelessStands, ExampleStands};
 
 // Enough was handed in.
-pub fn example_stands() -> u8
+pub fn example_stands()
     ensures { ExampleStands }
-{
-    0
-}
+{}
 
 // A member keeps to the rules.
-pub fn blameless_stands() -> u8
+pub fn blameless_stands()
     ensures { BlamelessStands }
-{
-    0
-}
+{}

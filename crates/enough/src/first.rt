@@ -1,8 +1,6 @@
 // Enough good shards bring the block.
 ghost use Rattle.enough.specs.First.{EnoughAlways};
 
-pub fn enough_bring_the_block() -> u8
+pub fn enough_bring_the_block()
     ensures { EnoughAlways }
-{
-    0
-}
+{}

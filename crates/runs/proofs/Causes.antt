@@ -1,11 +1,8 @@
 -- A member that keeps to the rules is never reported.
-use Rattle.std.proofs.Common.{◌≡◌, ℕ, Bool, true, not, List, [], ◌∷◌, is_some, IfSome, Some, None, filter, Option, sym, ap, ◌∙◌, subst, ⊎_elim}
-use Rattle.std.proofs.ByRecursion.{All-weaker}
+use Rattle.std.proofs.Common.{◌≡◌, ℕ, true, not, List, is_some, IfSome, Some, None, filter, Option, ap, subst, arith}
 use Rattle.std.proofs.lemmas.Slice.Eq.{bytes_eq-Decides}
-use Rattle.std.proofs.lemmas.Bool.{both_ways, cond_both, not-true}
-use Rattle.std.proofs.lemmas.Option.{same_Some}
+use Rattle.std.proofs.lemmas.Bool.{both_ways}
 use Rattle.std.specs.List.{AllByRecursion}
-use Rattle.std.specs.Str.{bytes_eq}
 use Rattle.rosters.specs.Sound.{index}
 use Rattle.scheme.specs.Pieces.{Indexed}
 use Rattle.table.proofs.Carried.{all_look}
@@ -17,12 +14,12 @@ use Rattle.model.specs.Jobs.{failing, job_in}
 use Rattle.model.specs.Meaning.{Meaning, good_for}
 use Rattle.model.specs.Promises.{Blameless, NobodyWithoutCause, Spares}
 use Rattle.model.specs.State.{Job, Limits, Rec, Sent, State}
+use Rattle.runs.proofs.Each.{all_filter, all_weaker}
 use Rattle.runs.proofs.Entries.{number_laws, number_same}
 use Rattle.runs.proofs.Intakes.{intake_ways}
 use Rattle.runs.proofs.Places.{index_same, stray_not_at, stray_not_own}
-use Rattle.runs.proofs.Reached.{Keeps, Reports, Seated, reached}
-use Rattle.runs.proofs.Records.{FineRecord, Holds, Pending, Received, completed_fine, new_fine, observed_fine, out_of, taken_fine, tried_fine}
-use Rattle.runs.proofs.Told.{all_tell}
+use Rattle.runs.proofs.Reached.{Reports, Seated, kept}
+use Rattle.runs.proofs.Records.{fine_keeps, FineRecord, Holds, Pending, Received, out_of}
 use Rattle.std.specs.Ordering.{nat_cmp}
 
 module _ (limits : Limits) (m : Meaning) (a : Assignment) (h : List Event) (k : List ℕ) (blameless : Blameless limits m a h k) where
@@ -49,28 +46,19 @@ module _ (limits : Limits) (m : Meaning) (a : Assignment) (h : List Event) (k : 
         drops = tt;
         stranger = λ none same. both_ways (is_some (index k (a.keys e))) (ap is_some (here same None none)) (blameless.member c e fine.announced);
         strays = λ place at class same.
-            ⊎_elim
-            (λ (p : index k (a.keys e) ≡ Some s.index). stray_not_at r.leader sender place s.index own class (same_Some s.index place (sym p ∙ here same (Some place) at)))
-            (λ (p : a.own e ≡ Some s.index). stray_not_own r.leader sender place s.index own class (seat.own_is ∙ p))
-            (blameless.placed c e s fine.announced (mine same));
+            let p = here same (Some place) at in
+            grind (arith, stray_not_at r.leader sender place s.index own class, stray_not_own r.leader sender place s.index own class, blameless.placed c e s fine.announced (mine same));
         equivocates = λ w x early at differ same.
             let got : Received limits m a H A c e x = all_look nat_cmp index_of (Received limits m a H A c e) s.index w.received x at (subst (Holds limits m a H A c e r.contributed) early fine.holds).received in
             let place : x.index ≡ s.index = found_exactly nat_cmp index_of number_laws number_same s.index w.received x at in
+            let theirs : got.sender ≡ k → good_for m limits.blob c x ≡ true = λ who. blameless.good c e x fine.announced (subst (λ j. H c j x) who got.handed) in
             let good : good_for m limits.blob c x ≡ true =
-            ⊎_elim (λ p. p)
-            (λ (q : (index got.sender (a.keys e) ≡ Some x.index) × (a.own e ≡ Some x.index → ⊥)).
-            ⊎_elim
-            (λ (p : index k (a.keys e) ≡ Some s.index).
-            let who : got.sender ≡ k = index_same got.sender k (a.keys e) x.index q.0 (p ∙ ap Some (sym place)) in
-            blameless.good c e x fine.announced (subst (λ j. H c j x) who got.handed))
-            (λ (p : a.own e ≡ Some s.index). absurd (q.1 (p ∙ ap Some (sym place))))
-            (blameless.placed c e s fine.announced (mine same)))
-            got.cause in
+            grind (arith, got.cause, index_same got.sender k (a.keys e) x.index, theirs, blameless.placed c e s fine.announced (mine same)) in
             let one : x ≡ s =
             blameless.alike c x s
             (record { good = good; sender = got.sender; handed = got.handed })
             (record { good = blameless.good c e s fine.announced (mine same); sender = sender; handed = handed }) place in
-            both_ways (bytes_eq x.bytes s.bytes) differ ((bytes_eq-Decides x.bytes s.bytes).1 (ap (λ (y : Indexed). y.bytes) one));
+            grind (arith, one, bytes_eq-Decides x.bytes s.bytes);
         bad = λ bad same. both_ways (good_for m limits.blob c s) bad (blameless.good c e s fine.announced (mine same));
         verified = λ _ _ _ _ _ _. tt;
         waiting = λ _ _ _ _ _ _ _. tt;
@@ -78,31 +66,12 @@ module _ (limits : Limits) (m : Meaning) (a : Assignment) (h : List Event) (k : 
 
   -- a pending shard that a job found bad is not from k
   bad_others : (c : List ℕ) (e : ℕ) → A c e → (ps : List Sent) → AllByRecursion (Pending limits m a H A c e) ps → AllByRecursion (λ p. Another p.sender) (filter (λ p. not (good_for m limits.blob c p.shard)) ps)
-  bad_others c e named [] all = tt
-  bad_others c e named (p ∷ ps) all =
-      let test : Sent → Bool = λ x. not (good_for m limits.blob c x.shard) in
-      cond_both (test p) (p ∷ filter test ps) (filter test ps) (AllByRecursion (λ x. Another x.sender))
-      (λ t. (
-        (λ same. both_ways (good_for m limits.blob c p.shard) (not-true _ t) (blameless.good c e p.shard named (subst (λ j. H c j p.shard) same all.0.handed))),
-        bad_others c e named ps all.1,
-      ))
-      (λ _. bad_others c e named ps all.1)
+  bad_others c e named ps all =
+      all_filter (Pending limits m a H A c e) (λ p. Another p.sender) (λ p. not (good_for m limits.blob c p.shard))
+      (λ p t k same. grind (arith, blameless.good c e p.shard named)) ps all
 
   blamed : (j : Job) (r : Rec) → job_in r.phase ≡ Some j → FineHere r → AllByRecursion (λ p. Another p.sender) (failing m limits.blob r.commitment j)
-  blamed j r out fine =
-      bad_others r.commitment r.round.epoch.0 fine.announced j.pending
-      (out_of limits m a H A r.commitment r.round.epoch.0 r.contributed r.phase j out fine.holds).pending
-
-  keeps : Keeps limits m a H A FineHere Another
-  keeps = record {
-    new = new_fine limits m a H A;
-    observed = observed_fine limits m a H A;
-    led = λ leader r fine. fine;
-    taken = λ keys own sender s r seat handed fine. (taken_fine limits m a H A keys own sender s r seat handed fine, spared keys own sender s r seat handed fine);
-    tried = tried_fine limits m a H A;
-    completed = completed_fine limits m a H A;
-    blamed = blamed;
-  }
+  blamed j r out fine = grind (arith, bad_others, out_of)
 
   spares : (x : Answer) → Reports Another x → Spares k x
   spares (refused n) all = tt
@@ -113,8 +82,8 @@ module _ (limits : Limits) (m : Meaning) (a : Assignment) (h : List Event) (k : 
 
   all_spared : (s : State) → Leads limits m a h s → AllByRecursion (λ e. Spares k e.answer) h
   all_spared s l =
-      All-weaker (λ (e : Event). Reports Another e.answer) (λ (e : Event). Spares k e.answer) (λ e. spares e.answer) h
-      (reached limits m a H A FineHere Another keeps h s l (all_tell limits m a H A FineHere Another h (λ _ _ _ z. z) (λ _ _ z. z))).reports
+      all_weaker (λ (e : Event). Reports Another e.answer) (λ (e : Event). Spares k e.answer) (λ e. spares e.answer) h
+      (kept limits m a FineHere Another h s (fine_keeps limits m a H A Another spared blamed) l).reports
 
 pub never_without_cause : (limits : Limits) (m : Meaning) (a : Assignment) (h : List Event) (s : State) → Leads limits m a h s → NobodyWithoutCause limits m a h
 never_without_cause limits m a h s l k blameless = all_spared limits m a h k blameless s l

@@ -1,34 +1,31 @@
 -- A block that a look-up gives is what good shards, each handed in, open to.
-use Rattle.std.proofs.Common.{◌≡◌, ℕ, ◌+◌, ◌-◌, ◌<◌, eqb, List, [], ◌∷◌, ◌++◌, length, drop, Some, Ok, sym, refl, ap, ◌∙◌, subst, arith, length-drop, take-append-drop, get_or-drop}
-use Rattle.std.proofs.ByRecursion.{All-weaker}
+use Rattle.std.proofs.Common.{◌≡◌, ℕ, ◌-◌, eqb, List, [], ◌∷◌, ◌++◌, length, drop, Some, Ok, sym, refl, ap, ◌∙◌, subst, arith, length-drop, take-append-drop}
+use Rattle.std.proofs.lemmas.Grind.{common_steps}
 use Rattle.std.proofs.lemmas.Bool.{and_parts, eqb-true}
+use Rattle.std.specs.List.{AllByRecursion}
 use Rattle.std.specs.Option.{option_map}
 use Rattle.block.proofs.Whole.{matched_behind}
 use Rattle.block.specs.Blobs.{parsed}
 use Rattle.block.specs.declared.kind.Reading.{Reading}
 use Rattle.register.specs.Commitments.{config_at, config_of}
-use Rattle.register.specs.Order.{order}
 use Rattle.scheme.specs.Pieces.{Indexed}
 use Rattle.table.proofs.Carried.{all_look}
 use Rattle.model.specs.Calls.{Call, discovery, notarization, shard, completion, peer_change, block_look_up, verified_look_up, block_in, phase_of, turned_down}
 use Rattle.model.specs.Histories.{Announced, Assignment, Event, HandedIn, Leads}
 use Rattle.model.specs.Meaning.{Meaning, Roster, fitted_for}
-use Rattle.model.specs.Promises.{BlocksWereHandedIn, Gives, GoodShard, HandedInBlock}
-use Rattle.model.specs.State.{Limits, Rec, State, filed_under, record_of}
+use Rattle.model.specs.Promises.{BlocksWereHandedIn, Gives, HandedInBlock}
+use Rattle.model.specs.State.{Limits, Rec, State, record_of}
 use Rattle.model.specs.Steps.{Step, block_given, step, unless_refused}
+use Rattle.runs.proofs.Each.{all_weaker}
 use Rattle.runs.proofs.Entries.{by_option, found_key}
-use Rattle.runs.proofs.Intakes.{by_phases}
-use Rattle.runs.proofs.Invariants.{records_fine}
-use Rattle.runs.proofs.Records.{Checked, FineRecord, Holds, OpenedFrom}
+use Rattle.runs.proofs.Reached.{kept}
+use Rattle.runs.proofs.Records.{FineRecord, OpenedFrom, fine_keeps}
 use Rattle.runs.proofs.Rolls.{roll_record}
 use Rattle.runs.specs.Rolls.{entry_of}
 
 -- the config in the bytes at i is that at the front of what stands behind them
 config_behind : (xs : List ℕ) (i : ℕ) → config_at (drop i xs) 0 ≡ config_at xs i
-config_behind xs i =
-    let two : i + 2 ≡ i + 2 + 0 = omega arith in
-    let three : i + 3 ≡ i + 2 + 1 = omega arith in
-    simp (get_or-drop, ← two, ← three)
+config_behind xs i = grind (arith, common_steps)
 
 -- a blob that fits ends with four bytes that spell the commitment's config
 record Ends (c blob : List ℕ) : Type 0 where
@@ -49,6 +46,10 @@ fitted-ends limits m c blob r e =
       spelled = config_behind blob (length blob - 4) ∙ ap (config_at blob) at ∙ b.1.is ∙ config;
     }
 
+all_anything : {X : Type 0} (xs : List X) → AllByRecursion (λ _. Unit {0}) xs
+all_anything [] = tt
+all_anything (x ∷ xs) = (tt, all_anything xs)
+
 module _ (limits : Limits) (m : Meaning) (a : Assignment) (h : List Event) where
   abbrev H : List ℕ → List ℕ → Indexed → Type 0
   H = HandedIn h
@@ -56,7 +57,16 @@ module _ (limits : Limits) (m : Meaning) (a : Assignment) (h : List Event) where
   abbrev A : List ℕ → ℕ → Type 0
   A = Announced h
 
+  -- nothing is asked here of the keys that are reported
+  abbrev Anybody : List ℕ → Type 0
+  Anybody key = Unit {0}
+
   module _ (s : State) (leads : Leads limits m a h s) where
+    records_fine : AllByRecursion (FineRecord limits m a H A) s.records
+    records_fine =
+        (kept limits m a (FineRecord limits m a H A) Anybody h s
+        (fine_keeps limits m a H A Anybody (λ keys own sender s r _ _ _. grind arith) (λ j r _ _. all_anything _)) leads).sound.records
+
     block_handed_in : (c : List ℕ) (r : Rec) (blob : List ℕ) → record_of c s ≡ Some r → OpenedFrom limits m a H A c r.round.epoch.0 blob → HandedInBlock limits m a h c (block_in blob)
     block_handed_in c r blob at from =
         let behind = fitted-ends limits m c blob from.reading from.fits in
@@ -65,30 +75,18 @@ module _ (limits : Limits) (m : Meaning) (a : Assignment) (h : List Event) where
           entry = entry_of r;
           held = roll_record limits m a h s leads c ∙ ap (option_map entry_of) at;
           shards = from.shards;
-          sufficient = record {
-            many = from.many;
-            distinct = from.distinct;
-            each = All-weaker (Checked limits m a H A c r.round.epoch.0) (GoodShard limits m a h c) (λ x k. record { good = k.good; sender = k.sender; handed = k.handed }) from.shards from.each;
-          };
-          participants = All-weaker (Checked limits m a H A c r.round.epoch.0) (λ x. x.index < length (a.keys r.round.epoch.0)) (λ x k. k.below) from.shards from.each;
+          sufficient = grind (arith, all_weaker);
+          participants = grind (arith, all_weaker);
           config = drop (length blob - 4) blob;
           four = behind.four;
           spelled = behind.spelled;
           opens = from.opens ∙ ap Ok whole;
           reading = from.reading;
-          fits = ap (fitted_for m limits.blob c) (sym whole) ∙ from.fits;
+          fits = grind arith;
         }
 
     looked_up : (roster : Roster) (c : List ℕ) (room : ℕ) → Gives limits m a h (block_look_up c room) (block_given limits m roster s (phase_of (record_of c s))).answer
-    looked_up roster c room =
-        by_option (λ o. record_of c s ≡ o → Gives limits m a h (block_look_up c room) (block_given limits m roster s (phase_of o)).answer) (record_of c s)
-        (λ _ _. tt)
-        (λ r at _.
-        let fine = all_look order filed_under (FineRecord limits m a H A) c s.records r at (records_fine limits m a h s leads) in
-        let holds = subst (λ d. Holds limits m a H A d r.round.epoch.0 r.contributed r.phase) (found_key filed_under c s.records r at) fine.holds in
-        by_phases (λ p. Holds limits m a H A c r.round.epoch.0 r.contributed p → Gives limits m a h (block_look_up c room) (block_given limits m roster s (Some p)).answer) r.phase
-        (λ _ _ _. tt) (λ blob _ from. block_handed_in c r blob at from) holds)
-        refl
+    looked_up roster c room = grind (arith, all_look, records_fine, found_key, block_handed_in)
 
     step_gives : (roster : Roster) (call : Call) → Gives limits m a h call (step limits m roster call s).answer
     unfolding step

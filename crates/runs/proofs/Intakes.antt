@@ -1,27 +1,15 @@
 -- What intake and a completion can come to, each with what led there.
-use Rattle.std.proofs.Common.{◌≡◌, ℕ, suc, ◌<◌, ◌≤◌, Bool, true, false, cond, ltb, ◌⊎◌, List, length, get_or, Some, None, Ok, Err, Option, Result, refl, inl, inr}
-use Rattle.std.proofs.lemmas.Bool.{cond_both, ltb-false, ltb-true}
+use Rattle.std.proofs.Common.{◌≡◌, ℕ, suc, ◌<◌, ◌≤◌, true, false, ◌⊎◌, List, length, get_or, Some, None, Ok, Err, Option, arith}
 use Rattle.std.specs.Str.{bytes_eq}
 use Rattle.block.specs.declared.kind.Reading.{Reading}
 use Rattle.reconstruct.specs.declared.error.Error.{Error}
 use Rattle.rosters.specs.Sound.{index}
 use Rattle.scheme.specs.Pieces.{Indexed}
-use Rattle.model.specs.Intake.{Class, assigned, owned, stray, Taken, arrives, checks, classed, dropped, from_member, intake, led, received_at, rejected, unless_contributed, unless_received, verifies, waits}
+use Rattle.model.specs.Intake.{assigned, owned, stray, Taken, classed, dropped, intake, received_at, rejected, verifies, waits}
 use Rattle.model.specs.Jobs.{Ended, completes, decoded, numbered, passing, shortened}
 use Rattle.model.specs.Meaning.{Meaning, good_for, minimum_of, opened_for, rebuilt_for}
-use Rattle.model.specs.State.{Job, Phase, awaiting, cached, Rec, Shards}
+use Rattle.model.specs.State.{Job, awaiting, Rec, Shards}
 use Rattle.model.specs.declared.answer.Reason.TheVariants.{Stranger, WrongIndex, Equivocation, BadAssigned}
-use Rattle.runs.proofs.Entries.{by_option}
-
--- what holds of a phase, and of a class, from each of their forms
-pub by_phases : (P : Phase → Type 0) (p : Phase) → ((w : Shards) → p ≡ awaiting w → P (awaiting w)) → ((blob : List ℕ) → p ≡ cached blob → P (cached blob)) → P p
-by_phases P (awaiting w) a c = a w refl
-by_phases P (cached blob) a c = c blob refl
-
-pub by_class : (P : Class → Type 0) (x : Class) → (x ≡ assigned → P assigned) → (x ≡ owned → P owned) → (x ≡ stray → P stray) → P x
-by_class P assigned a o s = a refl
-by_class P owned a o s = o refl
-by_class P stray a o s = s refl
 
 -- whatever each way of intake leaves is left by intake
 module _ (m : Meaning) (limit : ℕ) (keys : List (List ℕ)) (own : Option ℕ) (sender : List ℕ) (s : Indexed) (r : Rec) (Q : Taken → Type 0) where
@@ -36,45 +24,7 @@ module _ (m : Meaning) (limit : ℕ) (keys : List (List ℕ)) (own : Option ℕ)
 
   pub intake_ways : Ways → Q (intake m limit keys own sender s r)
   unfolding intake
-  intake_ways ways = by_option (λ o. Q (from_member good own sender s r o)) (index sender keys) (λ n. ways.stranger n) known
-    where
-      good : Indexed → Bool
-      good = good_for m limit r.commitment
-
-      astray : Q (rejected WrongIndex r) → (l : Option (List ℕ)) → Q (led l (rejected WrongIndex r) (dropped r))
-      astray q None = ways.drops
-      astray q (Some l) = q
-
-      once : (w : Shards) → r.phase ≡ awaiting w → (next : Taken) → (received_at s.index w ≡ None → get_or r.contributed s.index false ≡ false → Q next) → Q (unless_received (received_at s.index w) s r (unless_contributed s r next))
-      once w at next q =
-          by_option (λ o. Q (unless_received o s r (unless_contributed s r next))) (received_at s.index w)
-          (λ n. cond_both (get_or r.contributed s.index false) (dropped r) next Q (λ _. ways.drops) (λ f. q n f))
-          (λ x e. cond_both (bytes_eq x.bytes s.bytes) (dropped r) (rejected Equivocation r) Q (λ _. ways.drops) (λ f. ways.equivocates w x at e f))
-
-      judge : (place : ℕ) → index sender keys ≡ Some place → classed own r.leader sender place s.index ≡ assigned → get_or r.contributed s.index false ≡ false → r.verified ≡ false → Q (checks (good s) own s r)
-      judge place at class new unseen =
-          cond_both (good s) (verifies own s r) (rejected BadAssigned r) Q (λ t. ways.verified place at class new unseen t) (λ f. ways.bad f)
-
-      known : (place : ℕ) → index sender keys ≡ Some place → Q (from_member good own sender s r (Some place))
-      known place at =
-          let class = classed own r.leader sender place s.index in
-          by_phases (λ p. Q (arrives good own sender s r p class)) r.phase
-          (λ w early.
-          by_class (λ x. Q (arrives good own sender s r (awaiting w) x)) class
-          (λ c. once w early (cond r.verified (waits sender s w r) (checks (good s) own s r))
-          (λ n new. cond_both r.verified (waits sender s w r) (checks (good s) own s r) Q (λ seen. ways.waiting place w at early n new (inl (c, seen))) (judge place at c new)))
-          (λ c. once w early (waits sender s w r) (λ n new. ways.waiting place w at early n new (inr c)))
-          (λ c. astray (ways.strays place at c) r.leader))
-          (λ blob late.
-          by_class (λ x. Q (arrives good own sender s r (cached blob) x)) class
-          (λ c. cond_both (get_or r.contributed s.index false) (dropped r) (cond r.verified (dropped r) (checks (good s) own s r)) Q (λ _. ways.drops)
-          (λ new. cond_both r.verified (dropped r) (checks (good s) own s r) Q (λ _. ways.drops) (judge place at c new)))
-          (λ _. ways.drops)
-          (λ c. astray (ways.strays place at c) r.leader))
-
-pub by_result : {A E : Type 0} (P : Result A E → Type 0) (o : Result A E) → ((x : A) → o ≡ Ok x → P (Ok x)) → ((e : E) → o ≡ Err e → P (Err e)) → P o
-by_result P (Ok x) ok err = ok x refl
-by_result P (Err e) ok err = err e refl
+  intake_ways ways = grind arith
 
 -- too few shards pass, or they give a block, or a fault
 module _ (m : Meaning) (limit : ℕ) (j : Job) (r : Rec) (Q : Ended → Type 0) where
@@ -85,12 +35,4 @@ module _ (m : Meaning) (limit : ℕ) (j : Job) (r : Rec) (Q : Ended → Type 0) 
 
   pub completes_ways : CompletionWays → Q (completes m limit j r)
   unfolding completes
-  completes_ways ways =
-      let shards = passing m limit r.commitment j in
-      let opened = opened_for m limit r.commitment shards in
-      cond_both (ltb (length shards) (minimum_of r.commitment)) (shortened (suc r.completions) shards (numbered r)) (decoded (suc r.completions) opened (rebuilt_for m limit r.commitment shards) (numbered r)) Q
-      (λ t. ways.short (ltb-true _ _ t))
-      (λ f.
-      let many = ltb-false (length shards) (minimum_of r.commitment) f in
-      by_result (λ o. Q (decoded (suc r.completions) opened o (numbered r))) (rebuilt_for m limit r.commitment shards)
-      (λ x e. ways.whole x many e) (λ x e. ways.fault x many e))
+  completes_ways ways = grind arith

@@ -1,13 +1,12 @@
 pub mod Boxes
 pub mod Causes
+pub mod Each
 pub mod Entries
 pub mod Given
 pub mod Intakes
-pub mod Invariants
 pub mod Places
 pub mod Reached
 pub mod Records
 pub mod Rolls
 pub mod Tallies
-pub mod Told
 pub mod Ways

@@ -1,7 +1,5 @@
 -- What each call keeps of every record, and of the keys that it reports, holds in every state that a history leads to.
-use Rattle.std.proofs.Common.{◌≡◌, ℕ, true, List, [], ◌∷◌, is_some, IfSome, Some, None, Option, sym, refl, ap, ◌∙◌, subst}
-use Rattle.std.proofs.ByRecursion.{All-append, All-map}
-use Rattle.std.proofs.lemmas.Bool.{cond_both}
+use Rattle.std.proofs.Common.{◌≡◌, ℕ, true, List, [], ◌∷◌, is_some, IfSome, Some, None, Option, sym, refl, subst, arith, inr}
 use Rattle.std.specs.List.{AllByRecursion}
 use Rattle.register.specs.Order.{order}
 use Rattle.register.specs.declared.counters.Round.{Round}
@@ -10,14 +8,15 @@ use Rattle.scheme.specs.Pieces.{Indexed}
 use Rattle.table.proofs.Carried.{all_changed, all_look, all_put, all_without}
 use Rattle.model.specs.Boxes.{all_drawn}
 use Rattle.model.specs.Calls.{Answer, refused, answered, changed_peers, given, told, Call, discovery, notarization, shard, completion, peer_change, block_look_up, verified_look_up, Report, phase_of, turned_down}
-use Rattle.model.specs.Histories.{Agrees, Assignment, Brings, Counts, Entry, Event, Leads, Names}
+use Rattle.model.specs.Histories.{Agrees, Announced, Assignment, Brings, Counts, Event, HandedIn, Leads, Names}
 use Rattle.model.specs.Intake.{intake}
 use Rattle.model.specs.Jobs.{completes, failing, job_in, tries}
 use Rattle.model.specs.Meaning.{Meaning, Roster}
-use Rattle.model.specs.State.{Job, Limits, Phase, awaiting, cached, Rec, Sent, State, filed_under, new_record, record_of, round_of, with_leader}
+use Rattle.model.specs.State.{Job, Limits, Phase, Rec, Sent, State, filed_under, new_record, record_of, round_of, with_leader}
 use Rattle.model.specs.Steps.{Ingested, Step, advanced, all_taken, began, block_given, box_intake, completion_of, done, entered, observes, outlives, replaced, reported, same_epoch, shard_of, step, taken, unless_refused, wants, within_window}
 use Rattle.model.specs.declared.answer.Reason.{Reason}
 use Rattle.runs.proofs.Boxes.{Filled, boxed-filled, drawn_brought, left-filled, renewed-filled}
+use Rattle.runs.proofs.Each.{all_append, all_map}
 use Rattle.runs.proofs.Entries.{all_trimmed, by_option, found_key}
 use Rattle.runs.proofs.Rolls.{intake_entry}
 use Rattle.runs.proofs.Ways.{AnnouncedWays, box_ways, completion_ways, discovery_ways, notarization_ways, shard_ways}
@@ -29,9 +28,7 @@ pub record Seated (a : Assignment) (e : ℕ) (keys : List (List ℕ)) (own : Opt
   pub fair : Fair (Some keys) own
 
 pub seated : (a : Assignment) (roster : Roster) (e : ℕ) (keys : List (List ℕ)) → Agrees a roster → roster.keys e ≡ Some keys → Seated a e keys (roster.own e)
-seated a roster e keys agrees known =
-    let says = subst (λ o. IfSome o (λ ks. (ks ≡ a.keys e) × (roster.own e ≡ a.own e))) known (agrees.tells e) in
-    record { keys_are = says.0; own_is = says.1; fair = subst (λ o. Fair o (roster.own e)) known (agrees.fair e) }
+seated a roster e keys agrees known = grind arith
 
 -- every key that an answer reports is one of which R holds
 abbrev pub Reports : (List ℕ → Type 0) → Answer → Type 0
@@ -86,10 +83,10 @@ module _ (limits : Limits) (m : Meaning) (a : Assignment) (H : List ℕ → List
           (subst (λ n. Seated a n keys (roster.own e)) (sym going.epoch) seat)
           (subst (λ d. H d p.sender p.shard) (sym going.commitment) h) going.holds in
           record {
-            commitment = ap (λ (x : Entry). x.commitment) same ∙ going.commitment;
-            epoch = ap (λ (x : Entry). x.round.epoch.0) same ∙ going.epoch;
+            commitment = grind arith;
+            epoch = grind arith;
             holds = next.0;
-            reports = All-append (λ (r : Report). R r.key) i.reports (reported p.sender (intake m limits.blob keys (roster.own e) p.sender p.shard i.rec).report) going.reports (told_key p.sender _ next.1);
+            reports = grind (arith, all_append, told_key);
           }
 
       many : (i : Ingested) (ps : List Sent) → Going i → AllByRecursion (λ p. H c p.sender p.shard) ps → Going (all_taken limits m roster keys e i ps)
@@ -97,7 +94,7 @@ module _ (limits : Limits) (m : Meaning) (a : Assignment) (H : List ℕ → List
       many i (p ∷ ps) going all = many (taken limits m roster keys e i p) ps (one i p going all.0) all.1
 
       ahead : (i : Ingested) → Going i → P (advanced i)
-      ahead i going = cond_both i.gained (tries i.rec) i.rec P (λ _. keeps.tried i.rec going.holds) (λ _. going.holds)
+      ahead i going = grind arith
 
     module _ (s : State) (sound : Sound s) where
       -- box intake, where the store takes any record of which P holds
@@ -112,20 +109,20 @@ module _ (limits : Limits) (m : Meaning) (a : Assignment) (H : List ℕ → List
           let going = many keys e seat r.commitment (began r) ps (record { commitment = refl; epoch = refl; holds = holds; reports = tt }) (drawn_brought H r.commitment (is_some r.leader) keys s.peers sound.boxes) in
           record {
             sound = record {
-              records = stores _ (ahead keys e seat r.commitment (all_taken limits m roster keys e (began r) ps) going);
-              boxes = left-filled H (wants limits m roster keys r) s.peers sound.boxes;
+              records = grind (arith, ahead);
+              boxes = grind (arith, left-filled);
             };
             reports = going.reports;
           })
 
       put_back : (x : Rec) → P x → AllByRecursion P (replaced x s.records)
-      put_back x h = all_changed order filed_under P (λ _. x) x.commitment s.records (λ _ _ _. h) sound.records
+      put_back x h = grind (arith, all_changed)
 
       put_in : (x : Rec) → P x → AllByRecursion P (entered x s.records)
       put_in x h = all_put order filed_under P x s.records h sound.records
 
       held : (c : List ℕ) (r : Rec) → record_of c s ≡ Some r → P r
-      held c r at = all_look order filed_under P c s.records r at sound.records
+      held c r at = grind (arith, all_look)
 
       announcing : (c : List ℕ) (round : Round) → A c round.epoch.0 → AnnouncedWays limits m roster s Leaves c round
       announcing c round named = record {
@@ -161,7 +158,7 @@ module _ (limits : Limits) (m : Meaning) (a : Assignment) (H : List ℕ → List
           })
 
       outliving : (c : List ℕ) (o : Option Rec) → IfSome o P → AllByRecursion P (outlives limits m roster o c s.records)
-      outliving c None h = all_without order filed_under P c s.records sound.records
+      outliving c None h = grind (arith, all_without)
       outliving c (Some x) h = put_back x h
 
       completing : (c : List ℕ) → Leaves (completion_of limits m roster c s)
@@ -169,25 +166,17 @@ module _ (limits : Limits) (m : Meaning) (a : Assignment) (H : List ℕ → List
           completion_ways limits m roster s Leaves c (record { sound = sound; reports = tt })
           (λ r j at out.
           let ended = completes m limits.blob j r in
-          let bad : AllByRecursion (λ p. R p.sender) (failing m limits.blob c j) = subst (λ d. AllByRecursion (λ (p : Sent). R p.sender) (failing m limits.blob d j)) (found_key filed_under c s.records r at) (keeps.blamed j r out (held c r at)) in
+          let bad : AllByRecursion (λ p. R p.sender) (failing m limits.blob c j) = grind (arith, found_key, held) in
           record {
             sound = record { records = outliving c ended.rec (keeps.completed j r out (held c r at)); boxes = sound.boxes };
-            reports = All-map (λ (r : Report). R r.key) _ (failing m limits.blob c j) bad;
+            reports = grind (arith, all_map);
           })
 
       looking : (o : Option Phase) → Leaves (block_given limits m roster s o)
-      looking None = record { sound = sound; reports = tt }
-      looking (Some (awaiting w)) = record { sound = sound; reports = tt }
-      looking (Some (cached blob)) = record { sound = sound; reports = tt }
+      looking o = grind arith
 
       answers : (c : List ℕ) (round : Round) → AnnouncedWays limits m roster s (λ t. Counts t.answer) c round
-      answers c round = record {
-        still = λ _ _. tt;
-        stood = λ _ _ _ _ _. tt;
-        led = λ _ _ _ _ _. box_ways limits m roster s (λ t. Counts t.answer) _ _ (λ _. tt) (λ _ _. tt);
-        again = λ _ _ _ _ _. box_ways limits m roster s (λ t. Counts t.answer) _ _ (λ _. tt) (λ _ _. tt);
-        new = λ _ _ _ _. box_ways limits m roster s (λ t. Counts t.answer) _ _ (λ _. tt) (λ _ _. tt);
-      }
+      answers c round = grind arith
 
       done-leaves : (call : Call) → Tells call (done limits m roster s call).answer → Leaves (done limits m roster s call)
       done-leaves (discovery c leader round rooms) tells =
@@ -223,3 +212,13 @@ module _ (limits : Limits) (m : Meaning) (a : Assignment) (H : List ℕ → List
       subst (λ (t : Step). Tells e.call t.answer → Leaves t) l.3
       (step-leaves keeps e.roster l.2 before old.sound e.call) all.0 in
       record { sound = now.sound; reports = (now.reports, old.reports) }
+
+-- what a history's calls brought and named is what is handed in and announced in it
+module _ (limits : Limits) (m : Meaning) (a : Assignment) (P : Rec → Type 0) (R : List ℕ → Type 0) where
+  all_tell : (H : List ℕ → List ℕ → Indexed → Type 0) (A : List ℕ → ℕ → Type 0) (h : List Event) → ((c k : List ℕ) (x : Indexed) → HandedIn h c k x → H c k x) → ((c : List ℕ) (e : ℕ) → Announced h c e → A c e) → AllByRecursion (λ (e : Event). Tells limits m a H A P R e.call e.answer) h
+  all_tell H A [] f g = tt
+  all_tell H A (e ∷ h) f g = grind (arith, all_tell H A h (λ c k x z. f c k x (inr z)) (λ c n z. g c n (inr z)))
+
+  pub kept : (h : List Event) (s : State) → Keeps limits m a (HandedIn h) (Announced h) P R → Leads limits m a h s → Reached limits m a (HandedIn h) (Announced h) P R h s
+  kept h s keeps leads =
+      reached limits m a (HandedIn h) (Announced h) P R keeps h s leads (all_tell (HandedIn h) (Announced h) h (λ _ _ _ z. z) (λ _ _ z. z))

@@ -1,12 +1,11 @@
 -- What holds of every record: where its shards came from, that they are good or may be, and that each index counts once.
-use Rattle.std.proofs.Common.{◌≡◌, ℕ, ◌+◌, ◌-◌, ◌<◌, ◌≤◌, Bool, true, false, leb, ◌⊎◌, List, [], ◌∷◌, ◌++◌, map, length, get_or, set, IfSome, Some, None, Ok, Err, filter, Option, Result, sym, refl, ap, ◌∙◌, subst, inl, inr, ⊎_elim, arith, length-set, length-take}
-use lib.ListN.{length-replicate}
-use Rattle.std.proofs.ByRecursion.{All-append, All-drop, All-push, All-take}
-use Rattle.std.proofs.lemmas.Bool.{both_ways, cond_both, eqb-true, leb-true}
+use Rattle.std.proofs.Common.{◌≡◌, ℕ, ◌+◌, ◌-◌, ◌<◌, ◌≤◌, Bool, true, false, leb, ◌⊎◌, List, [], ◌∷◌, ◌++◌, map, length, get_or, set, IfSome, Some, None, Ok, filter, Option, ap, ◌∙◌, inl, inr, arith, length-set, length-take}
+use Rattle.std.proofs.lemmas.Grind.{common_steps}
+use Rattle.std.proofs.lemmas.Bool.{cond_both, leb-true}
+use Rattle.std.proofs.lemmas.List.{get_or-set_same}
 use Rattle.std.specs.List.{AllByRecursion}
-use Rattle.block.specs.declared.blob.Misfit.{Misfit}
 use Rattle.block.specs.declared.kind.Reading.{Reading}
-use Rattle.reconstruct.specs.Rebuilt.{raised, rebuilt}
+use Rattle.reconstruct.specs.Rebuilt.{rebuilt}
 use Rattle.register.specs.Order.{order}
 use Rattle.register.specs.declared.counters.Round.{Round}
 use Rattle.rosters.specs.Sound.{index}
@@ -15,16 +14,17 @@ use Rattle.scheme.specs.Told.{Opened}
 use Rattle.table.proofs.Carried.{all_put}
 use Rattle.model.specs.Histories.{Assignment}
 use Rattle.model.specs.Intake.{assigned, owned, classed, index_of, intake, joined, sender_of, verifies, waits, with_pending, with_received}
-use Rattle.model.specs.Jobs.{blob_in, completes, job_in, numbered, passing, returned_in, shard_of, started, tried_in, tried_with, tries}
+use Rattle.model.specs.Jobs.{blob_in, completes, failing, job_in, numbered, passing, returned_in, shard_of, started, tried_in, tried_with, tries}
 use Rattle.model.specs.Meaning.{Meaning, Roster, fitted_for, good_for, minimum_of, opened_for}
 use Rattle.model.specs.Promises.{Distinct}
-use Rattle.model.specs.State.{Job, Limits, Phase, awaiting, cached, Rec, Sent, Shards, larger, lower, new_record, with_phase}
+use Rattle.model.specs.State.{Job, Limits, Phase, awaiting, cached, Rec, Sent, Shards, new_record, with_phase}
 use Rattle.model.specs.Steps.{observes, same_epoch}
-use Rattle.runs.proofs.Entries.{by_option, never_some}
+use Rattle.runs.proofs.Each.{all_append, all_drop, all_filter, all_map, all_take, all_weaker}
+use Rattle.runs.proofs.Entries.{by_option}
 use Rattle.runs.proofs.Intakes.{completes_ways, intake_ways}
-use Rattle.runs.proofs.Places.{assigned_at, assigned_without, index_below, own_below, owned_at, owned_not_own}
-use Rattle.runs.proofs.Reached.{Seated}
-use Rattle.runs.proofs.Tallies.{distinct, flag, flag_kept, flag_most, flag_raised, flag_room, hit, tally, tally_append, tally_kept, tally_map, tally_put, tally_split}
+use Rattle.runs.proofs.Places.{assigned_at, assigned_without, index_below, own_below}
+use Rattle.runs.proofs.Reached.{Keeps, Seated}
+use Rattle.runs.proofs.Tallies.{distinct, flag, flag_kept, flag_most, flag_set, tally, tally_append, tally_kept, tally_map, tally_put, tally_split}
 use Rattle.std.specs.Ordering.{nat_cmp}
 
 abbrev pub sent_at : Sent → ℕ
@@ -38,10 +38,6 @@ at_job i (Some j) = tally index_of i j.checked + tally sent_at i j.pending
 -- how often an index is in play: checked, pending, or out with the job
 abbrev pub in_play : ℕ → Shards → ℕ
 in_play i w = tally index_of i w.checked + tally sent_at i w.pending + at_job i w.job
-
-raised_parts : (o : Result Reading Misfit) (reading : Reading) → raised o ≡ Ok reading → o ≡ Ok reading
-raised_parts (Ok x) reading h = cc
-raised_parts (Err x) reading h = absurd (let z : ◌≡◌ {A = ℕ} 0 1 = cc in omega arith)
 
 -- H: handed in, of commitment, key and shard; A: announced, of commitment and epoch
 module _ (limits : Limits) (m : Meaning) (a : Assignment) (H : List ℕ → List ℕ → Indexed → Type 0) (A : List ℕ → ℕ → Type 0) where
@@ -99,32 +95,20 @@ module _ (limits : Limits) (m : Meaning) (a : Assignment) (H : List ℕ → List
   FineRecord r = Fine r.commitment r.round.epoch.0 r.contributed r.verified r.phase
 
   pub new_fine : (c : List ℕ) (round : Round) (leader : Option (List ℕ)) → A c round.epoch.0 → FineRecord (new_record c round leader)
-  new_fine c round leader named = record {
-    announced = named;
-    long = length-replicate 64 false;
-    own = λ i _ h. absurd (both_ways false refl h);
-    holds = record { received = tt; checked = tt; pending = tt; job = tt; once = λ i. omega arith };
-  }
+  new_fine c round leader named = grind (arith, common_steps)
 
   pub observed_fine : (roster : Roster) (round : Round) (r : Rec) → same_epoch r.round round ≡ true → FineRecord r → FineRecord (observes limits m roster round r)
-  observed_fine roster round r same fine =
-      let e : (larger r.round round).epoch.0 ≡ r.round.epoch.0 =
-      cond_both (lower r.round round) round r.round (λ z. z.epoch.0 ≡ r.round.epoch.0)
-      (λ _. sym (eqb-true r.round.epoch.0 round.epoch.0 same)) (λ _. refl) in
-      subst (λ n. Fine r.commitment n r.contributed r.verified r.phase) (sym e) fine
+  observed_fine roster round r same fine = grind arith
 
   -- a shard of an index that has not contributed, in the two places that it can go to
   module _ (c : List ℕ) (e : ℕ) (flags : List Bool) (s : Indexed) (long : length flags ≡ 64) (small : s.index < 64) (down : get_or flags s.index false ≡ false) where
-    room : (i : ℕ) → hit i s.index + flag (get_or flags i false) ≤ flag (get_or (set flags s.index true) i false)
-    room i = flag_room flags s.index i (omega arith) down
-
     joins : (w : Shards) → Checked c e s → Awaits c e flags w → Awaits c e (set flags s.index true) (with_received s (w.checked ++ s ∷ []) w)
     joins w checked h = record {
       received = all_put nat_cmp index_of (Received c e) s w.received (record { sender = checked.sender; handed = checked.handed; cause = inl checked.good }) h.received;
-      checked = All-push (Checked c e) w.checked s h.checked checked;
+      checked = grind (arith, all_append);
       pending = h.pending;
       job = h.job;
-      once = λ i. let r = room i in let n = h.once i in let t = tally_append index_of i w.checked (s ∷ []) in omega arith;
+      once = λ i. grind (arith, flag_set, tally_append);
     }
 
     pends : (sender : List ℕ) (w : Shards) → H c sender s → index sender (a.keys e) ≡ Some s.index → (a.own e ≡ Some s.index → ⊥) → Awaits c e flags w → Awaits c e (set flags s.index true) (with_pending (record { sender = sender; shard = s }) w)
@@ -133,7 +117,7 @@ module _ (limits : Limits) (m : Meaning) (a : Assignment) (H : List ℕ → List
       checked = h.checked;
       pending = all_put order sender_of (Pending c e) (record { sender = sender; shard = s }) w.pending (record { handed = handed; placed = placed }) h.pending;
       job = h.job;
-      once = λ i. let r = room i in let n = h.once i in let t = tally_put sent_at order sender_of i (record { sender = sender; shard = s }) w.pending in omega arith;
+      once = λ i. let r = flag_set flags s.index i (omega arith) down in let n = h.once i in let t = tally_put sent_at order sender_of i (record { sender = sender; shard = s }) w.pending in omega arith;
     }
 
     joined_holds : (p : Phase) → Checked c e s → Holds c e flags p → Holds c e (set flags s.index true) (joined s p)
@@ -144,20 +128,16 @@ module _ (limits : Limits) (m : Meaning) (a : Assignment) (H : List ℕ → List
   module _ (keys : List (List ℕ)) (own : Option ℕ) (sender : List ℕ) (s : Indexed) (r : Rec) (seat : Seated a r.round.epoch.0 keys own) (handed : H r.commitment sender s) (fine : FineRecord r) where
     -- a member's index, the own one or its sender's, is below the members
     within : (i : ℕ) → i < length keys → i < length (a.keys r.round.epoch.0)
-    within i h = subst (λ ks. i < length ks) seat.keys_are h
+    within i h = grind arith
 
     few : length keys ≤ 64
     few = seat.fair.0
 
     assigned_below : (place : ℕ) → index sender keys ≡ Some place → classed own r.leader sender place s.index ≡ assigned → s.index < length keys
-    assigned_below place at class =
-        by_option (λ o. own ≡ o → s.index < length keys) own
-        (λ none _. let same = assigned_without r.leader sender place s.index own class none in let l = index_below sender keys place at in omega arith)
-        (λ o is _. let same = assigned_at r.leader sender place s.index own o class is in let l = own_below keys own o seat.fair is in omega arith)
-        refl
+    assigned_below place at class = grind (arith, assigned_without, index_below, assigned_at, own_below)
 
     own_stays : (i : ℕ) → (a.own r.round.epoch.0 ≡ Some i → r.verified ≡ true → get_or r.contributed i false ≡ true) → a.own r.round.epoch.0 ≡ Some i → r.verified ≡ true → get_or (set r.contributed s.index true) i false ≡ true
-    own_stays i h is seen = flag_kept r.contributed s.index i (h is seen)
+    own_stays i h is seen = grind (arith, flag_kept)
 
     verifies_fine : (place : ℕ) → index sender keys ≡ Some place → classed own r.leader sender place s.index ≡ assigned → get_or r.contributed s.index false ≡ false → good_for m limits.blob r.commitment s ≡ true → FineRecord (verifies own s r).rec
     verifies_fine place at class down good =
@@ -168,8 +148,7 @@ module _ (limits : Limits) (m : Meaning) (a : Assignment) (H : List ℕ → List
           announced = fine.announced;
           long = length-set r.contributed s.index true ∙ long;
           own = λ i is _.
-              let same = assigned_at r.leader sender place s.index own i class (seat.own_is ∙ is) in
-              subst (λ j. get_or (set r.contributed s.index true) j false ≡ true) same (flag_raised r.contributed s.index (omega arith));
+              grind (arith, assigned_at, get_or-set_same);
           holds =
               joined_holds r.commitment r.round.epoch.0 r.contributed s long (omega arith) down r.phase
               (record { good = good; below = within s.index l; sender = sender; handed = handed }) fine.holds;
@@ -185,22 +164,12 @@ module _ (limits : Limits) (m : Meaning) (a : Assignment) (H : List ℕ → List
           long = length-set r.contributed s.index true ∙ long;
           own = λ i is seen. own_stays i (fine.own i) is seen;
           holds =
-              pends r.commitment r.round.epoch.0 r.contributed s long (omega arith) down sender w handed
-              (subst (λ ks. index sender ks ≡ Some s.index) seat.keys_are at) (λ is. apart (seat.own_is ∙ is))
-              (subst (Holds r.commitment r.round.epoch.0 r.contributed) early fine.holds);
+              grind (arith, pends);
         }
 
     -- a shard that waits is at its sender's index, which is not this node's
     pub waits_placed : (place : ℕ) → get_or r.contributed s.index false ≡ false → ((classed own r.leader sender place s.index ≡ assigned) × (r.verified ≡ true)) ⊎ (classed own r.leader sender place s.index ≡ owned) → (s.index ≡ place) × (own ≡ Some s.index → ⊥)
-    waits_placed place down =
-        ⊎_elim
-        (λ h.
-        let apart : own ≡ Some s.index → ⊥ = λ is. both_ways (get_or r.contributed s.index false) down (fine.own s.index (sym seat.own_is ∙ is) h.1) in
-        by_option (λ o. own ≡ o → (s.index ≡ place) × (own ≡ Some s.index → ⊥)) own
-        (λ none _. (assigned_without r.leader sender place s.index own h.0 none, apart))
-        (λ o is _. absurd (apart (is ∙ ap Some (sym (assigned_at r.leader sender place s.index own o h.0 is)))))
-        refl)
-        (λ class. (owned_at r.leader sender place s.index own class, owned_not_own r.leader sender place s.index own class))
+    waits_placed place down class = grind arith
 
     pub taken_fine : FineRecord (intake m limits.blob keys own sender s r).rec
     taken_fine =
@@ -213,8 +182,7 @@ module _ (limits : Limits) (m : Meaning) (a : Assignment) (H : List ℕ → List
           bad = λ _. fine;
           verified = λ place at class down _ good. verifies_fine place at class down good;
           waiting = λ place w at early _ down class.
-              let p = waits_placed place down class in
-              waits_fine w early (at ∙ ap Some (sym p.0)) p.1 down;
+              grind (arith, waits_placed, waits_fine);
         })
 
   -- a job that starts takes shards over as they are
@@ -224,13 +192,13 @@ module _ (limits : Limits) (m : Meaning) (a : Assignment) (H : List ℕ → List
       record {
         received = h.received;
         checked = tt;
-        pending = All-drop (Pending c e) n w.pending h.pending;
+        pending = all_drop (Pending c e) n w.pending h.pending;
         job = record {
           checked = h.checked;
-          pending = All-take (Pending c e) n w.pending h.pending;
+          pending = all_take (Pending c e) n w.pending h.pending;
           enough = let l = length-take n w.pending in omega arith;
         };
-        once = λ i. let o = h.once i in let t = tally_split sent_at i n w.pending in omega arith;
+        once = λ i. grind (arith, tally_split);
       }
 
   tried_holds : (c : List ℕ) (e : ℕ) (flags : List Bool) (p : Phase) → Holds c e flags p → Holds c e flags (tried_in (minimum_of c) p)
@@ -248,34 +216,26 @@ module _ (limits : Limits) (m : Meaning) (a : Assignment) (H : List ℕ → List
     announced = fine.announced;
     long = fine.long;
     own = fine.own;
-    holds = tried_holds r.commitment r.round.epoch.0 r.contributed r.phase fine.holds;
+    holds = grind (arith, tried_holds);
   }
 
   -- a pending shard that is good counts as checked
   good_pending : (c : List ℕ) (e : ℕ) (ps : List Sent) → AllByRecursion (Pending c e) ps → AllByRecursion (Checked c e) (filter (good_for m limits.blob c) (map shard_of ps))
-  good_pending c e [] all = tt
-  good_pending c e (p ∷ ps) all =
-      let rest = filter (good_for m limits.blob c) (map shard_of ps) in
-      cond_both (good_for m limits.blob c p.shard) (p.shard ∷ rest) rest (AllByRecursion (Checked c e))
-      (λ t.
-      (record { good = t; below = index_below p.sender (a.keys e) p.shard.index all.0.placed; sender = p.sender; handed = all.0.handed }, good_pending c e ps all.1))
-      (λ _. good_pending c e ps all.1)
+  good_pending c e ps all =
+      let Brought : Indexed → Type 0 = λ x. (k : List ℕ) × H c k x × (index k (a.keys e) ≡ Some x.index) in
+      all_filter Brought (Checked c e) (good_for m limits.blob c)
+      (λ x t b. record { good = t; below = index_below b.0 (a.keys e) x.index b.2; sender = b.0; handed = b.1 }) (map shard_of ps)
+      (all_map Brought shard_of ps (all_weaker (Pending c e) (λ p. Brought p.shard) (λ p k. (p.sender, k.handed, k.placed)) ps all))
 
   pub passing_checked : (c : List ℕ) (e : ℕ) (j : Job) → Out c e j → AllByRecursion (Checked c e) (passing m limits.blob c j)
-  passing_checked c e j out =
-      All-append (Checked c e) j.checked (filter (good_for m limits.blob c) (map shard_of j.pending)) out.checked (good_pending c e j.pending out.pending)
+  passing_checked c e j out = grind (arith, all_append, good_pending)
 
   pub passing_once : (c : List ℕ) (i : ℕ) (j : Job) → tally index_of i (passing m limits.blob c j) ≤ at_job i (Some j)
-  passing_once c i j =
-      let t = tally_append index_of i j.checked (filter (good_for m limits.blob c) (map shard_of j.pending)) in
-      let k = tally_kept index_of (good_for m limits.blob c) i (map shard_of j.pending) in
-      let s = tally_map index_of shard_of i j.pending in
-      omega arith
+  passing_once c i j = grind (arith, tally_append, tally_kept, tally_map)
 
   -- the job that is out, from the phase
   pub out_of : (c : List ℕ) (e : ℕ) (flags : List Bool) (p : Phase) (j : Job) → job_in p ≡ Some j → Holds c e flags p → Out c e j
-  out_of c e flags (awaiting w) j out h = subst (λ o. IfSome o (Out c e)) out h.job
-  out_of c e flags (cached blob) j out h = never_some j (Out c e j) out
+  out_of c e flags p j out h = grind arith
 
   out_once : (c : List ℕ) (e : ℕ) (flags : List Bool) (p : Phase) (j : Job) → job_in p ≡ Some j → Holds c e flags p → (i : ℕ) → at_job i (Some j) ≤ 1
   out_once c e flags (awaiting w) j out h i =
@@ -283,29 +243,24 @@ module _ (limits : Limits) (m : Meaning) (a : Assignment) (H : List ℕ → List
       let same = ap (at_job i) out in
       let most = flag_most (get_or flags i false) in
       omega arith
-  out_once c e flags (cached blob) j out h i = never_some j (at_job i (Some j) ≤ 1) out
+  out_once c e flags (cached blob) j out h i = cc
 
   returned_holds : (c : List ℕ) (e : ℕ) (flags : List Bool) (p : Phase) (j : Job) → job_in p ≡ Some j → Holds c e flags p → Holds c e flags (returned_in (passing m limits.blob c j) p)
   returned_holds c e flags (awaiting w) j out h =
       let shards = passing m limits.blob c j in
       record {
         received = h.received;
-        checked = All-append (Checked c e) w.checked shards h.checked (passing_checked c e j (out_of c e flags (awaiting w) j out h));
+        checked = all_append (Checked c e) w.checked shards h.checked (passing_checked c e j (out_of c e flags (awaiting w) j out h));
         pending = h.pending;
         job = tt;
         once = λ i.
-            let n = h.once i in
-            let same = ap (at_job i) out in
-            let t = tally_append index_of i w.checked shards in
-            let k = passing_once c i j in
-            omega arith;
+            grind (arith, tally_append, passing_once);
       }
   returned_holds c e flags (cached blob) j out h = h
 
   -- shards that give a block opened to a blob that fits
   rebuilt_parts : (c : List ℕ) (o : Opened) (reading : Reading) → rebuilt m.digest m.reads c o ≡ Ok reading → (o ≡ Ok (blob_in o)) × (fitted_for m limits.blob c (blob_in o) ≡ Ok reading)
-  rebuilt_parts c (Ok blob) reading h = (refl, raised_parts (fitted_for m limits.blob c blob) reading h)
-  rebuilt_parts c (Err f) reading h = absurd (let z : ◌≡◌ {A = ℕ} 0 1 = cc in omega arith)
+  rebuilt_parts c o reading h = grind arith
 
   pub completed_fine : (j : Job) (r : Rec) → job_in r.phase ≡ Some j → FineRecord r → IfSome (completes m limits.blob j r).rec FineRecord
   completed_fine j r out fine =
@@ -327,7 +282,7 @@ module _ (limits : Limits) (m : Meaning) (a : Assignment) (H : List ℕ → List
               holds = record {
                 shards = shards;
                 many = many;
-                distinct = distinct index_of shards (λ i. let k = passing_once c i j in let o = out_once c e flags r.phase j out fine.holds i in omega arith);
+                distinct = grind (arith, distinct, passing_once, out_once);
                 each = passing_checked c e j (out_of c e flags r.phase j out fine.holds);
                 opens = parts.0;
                 reading = reading;
@@ -336,3 +291,18 @@ module _ (limits : Limits) (m : Meaning) (a : Assignment) (H : List ℕ → List
             };
         fault = λ _ _ _. tt;
       })
+
+  -- what holds of records is kept, whatever is shown of the keys that are reported
+  pub fine_keeps : (R : List ℕ → Type 0) →
+      ((keys : List (List ℕ)) (own : Option ℕ) (sender : List ℕ) (s : Indexed) (r : Rec) → Seated a r.round.epoch.0 keys own → H r.commitment sender s → FineRecord r → IfSome (intake m limits.blob keys own sender s r).report (λ _. R sender)) →
+      ((j : Job) (r : Rec) → job_in r.phase ≡ Some j → FineRecord r → AllByRecursion (λ p. R p.sender) (failing m limits.blob r.commitment j)) →
+      Keeps limits m a H A FineRecord R
+  fine_keeps R spared blamed = record {
+    new = new_fine;
+    observed = observed_fine;
+    led = λ leader r fine. fine;
+    taken = λ keys own sender s r seat handed fine. (taken_fine keys own sender s r seat handed fine, spared keys own sender s r seat handed fine);
+    tried = tried_fine;
+    completed = completed_fine;
+    blamed = blamed;
+  }

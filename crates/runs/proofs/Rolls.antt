@@ -1,6 +1,5 @@
 -- The roll has at every moment the records' commitments and rounds; records ascend and are within the window.
 use Rattle.std.proofs.Common.{◌≡◌, ℕ, ◌≤◌, true, false, List, [], ◌∷◌, map, length, Some, None, Option, sym, refl, ap, ◌∙◌, subst, arith}
-use Rattle.std.proofs.lemmas.Bool.{cond_both}
 use Rattle.std.specs.Option.{option_map}
 use Rattle.register.specs.Order.{order}
 use Rattle.register.specs.declared.counters.Round.{Round}
@@ -10,11 +9,11 @@ use Rattle.table.specs.Laws.{Ascends, look}
 use Rattle.table.specs.Table.{changed, put}
 use Rattle.model.specs.Boxes.{all_drawn, all_left}
 use Rattle.model.specs.Calls.{refused, answered, Call, discovery, notarization, shard, completion, peer_change, block_look_up, verified_look_up, Report, Rooms, phase_of, turned_down}
-use Rattle.model.specs.Histories.{Assignment, Event, Leads, announces, commitment_of, fed, on_roll, raised, roll, says_held}
+use Rattle.model.specs.Histories.{Assignment, Event, Leads, announces, commitment_of, fed, on_roll, raised, roll, round_of as rolled_round, says_held}
 use Rattle.model.specs.Intake.{Action, intake}
 use Rattle.model.specs.Jobs.{blob_in, numbered, passing, returned_in, tries}
 use Rattle.model.specs.Meaning.{Meaning, Roster, opened_for}
-use Rattle.model.specs.State.{Limits, Peer, Phase, awaiting, cached, Rec, Sent, State, filed_under, new_record, record_of, round_of, with_leader, with_phase}
+use Rattle.model.specs.State.{Limits, Peer, Phase, cached, Rec, Sent, State, filed_under, new_record, record_of, round_of, with_leader, with_phase}
 use Rattle.model.specs.Steps.{Ingested, Step, advanced, all_taken, began, block_given, box_intake, completion_of, discovery_of, done, ends, entered, notarization_of, observes, replaced, shard_of, stays, step, taken, unless_refused, wants, within_window}
 use Rattle.model.specs.Window.{trimmed}
 use Rattle.model.specs.declared.answer.Outcome.{Outcome}
@@ -43,18 +42,20 @@ pub tries_entry : (r : Rec) → entry_of (tries r) ≡ entry_of r
 unfolding tries
 tries_entry r = refl
 
-module _ (limits : Limits) (m : Meaning) (roster : Roster) where
-  pub taken_entry : (keys : List (List ℕ)) (e : ℕ) (i : Ingested) (ps : List Sent) → entry_of (all_taken limits m roster keys e i ps).rec ≡ entry_of i.rec
-  taken_entry keys e i [] = refl
-  taken_entry keys e i (p ∷ ps) =
-      taken_entry keys e (taken limits m roster keys e i p) ps ∙ intake_entry m limits.blob keys (roster.own e) p.sender p.shard i.rec
-
 pub advanced_entry : (i : Ingested) → entry_of (advanced i) ≡ entry_of i.rec
-advanced_entry i = cond_both i.gained (tries i.rec) i.rec (λ r. entry_of r ≡ entry_of i.rec) (λ _. tries_entry i.rec) (λ _. refl)
+advanced_entry i = grind (arith, tries_entry)
+
+module _ (limits : Limits) (m : Meaning) (roster : Roster) where
+  taken_entry : (keys : List (List ℕ)) (e : ℕ) (i : Ingested) (ps : List Sent) → entry_of (all_taken limits m roster keys e i ps).rec ≡ entry_of i.rec
+  taken_entry keys e i [] = refl
+  taken_entry keys e i (p ∷ ps) = grind (arith, intake_entry, taken_entry keys e (taken limits m roster keys e i p) ps)
+
+  pub drawn_entry : (keys : List (List ℕ)) (x : Rec) (ps : List Sent) → entry_of (advanced (all_taken limits m roster keys x.round.epoch.0 (began x) ps)) ≡ entry_of x
+  drawn_entry keys x ps = advanced_entry (all_taken limits m roster keys x.round.epoch.0 (began x) ps) ∙ taken_entry keys x.round.epoch.0 (began x) ps
 
 -- what is found among the entries is the entry of the record that is found
 roll_look : (c : List ℕ) (rs : List Rec) → on_roll c (map entry_of rs) ≡ option_map entry_of (look order filed_under c rs)
-roll_look c rs = map-look order filed_under order commitment_of entry_of c c rs (λ _. refl)
+roll_look c rs = grind (arith, map-look)
 
 -- the roll after a call, and what holds of the records then
 pub record Follows (window : ℕ) (call : Call) (s : State) (t : Step) : Type 0 where
@@ -70,63 +71,58 @@ module _ (limits : Limits) (m : Meaning) (roster : Roster) (s : State) (up : Asc
     within : length (within_window limits m roster t).state.records ≤ limits.window
 
   still : (o : Outcome) → says_held o ≡ false → Announcing (stays limits m roster o s)
-  still o unheld =
-      let same = Entries.trimmed_few round_of filed_under limits.window s.records few in
-      record { follows = simp unheld (ap (map entry_of) (sym same)); ascend = subst (Ascends order filed_under) (sym same) up; within = subst (λ rs. length rs ≤ limits.window) (sym same) few }
+  still o unheld = grind arith
 
   stood : (o : Outcome) (ps : List Peer) (rs : List Report) (a : Option Action) (r x : Rec) → says_held o ≡ true → record_of c s ≡ Some r → entry_of x ≡ raised round (entry_of r) → Announcing (record { state = record { records = replaced x s.records; peers = ps }; answer = answered o rs a })
   stood o ps rs a r x held at same =
-      let found : on_roll c (map entry_of s.records) ≡ Some (entry_of r) = roll_look c s.records ∙ ap (option_map entry_of) at in
+      let found : on_roll c (map entry_of s.records) ≡ Some (entry_of r) = grind (arith, roll_look) in
       let key : c ≡ x.commitment = sym (Entries.found_key filed_under c s.records r at) ∙ ap commitment_of (sym same) in
-      let long : length (replaced x s.records) ≤ limits.window = subst (λ n. n ≤ limits.window) (sym (length-changed order filed_under (λ _. x) x.commitment s.records)) few in
+      let long : length (replaced x s.records) ≤ limits.window = grind (arith, length-changed) in
       let whole = Entries.trimmed_few round_of filed_under limits.window (replaced x s.records) long in
       record {
         follows =
             simp (held, found)
             (changed_alike order commitment_of (raised round) (λ _. entry_of x) c (map entry_of s.records) (entry_of r) found (sym same) ∙ ap (λ k. changed order commitment_of (λ _. entry_of x) k (map entry_of s.records)) key ∙ sym (map-changed order filed_under order commitment_of entry_of (λ _. x) (λ _. entry_of x) x.commitment x.commitment s.records (λ _. refl) (λ _. refl)) ∙ ap (map entry_of) (sym whole));
         ascend = subst (Ascends order filed_under) (sym whole) (Entries.replaced_ascends filed_under x s.records up);
-        within = subst (λ rs. length rs ≤ limits.window) (sym whole) long;
+        within = grind arith;
       }
 
   admitted : (o : Outcome) (ps : List Peer) (rs : List Report) (a : Option Action) (x : Rec) → says_held o ≡ true → record_of c s ≡ None → entry_of x ≡ record { commitment = c; round = round } → Announcing (record { state = record { records = put order filed_under x s.records; peers = ps }; answer = answered o rs a })
   admitted o ps rs a x held at same =
-      let found : on_roll c (map entry_of s.records) ≡ None = roll_look c s.records ∙ ap (option_map entry_of) at in
+      let found : on_roll c (map entry_of s.records) ≡ None = grind (arith, roll_look) in
       let rose = (Entries.entry_laws filed_under).put_ascends x s.records up in
       let most = length-put order filed_under x s.records in
       record {
         follows =
             simp (held, found)
-            (ap (λ e. trimmed Rattle.model.specs.Histories.round_of commitment_of limits.window (put order commitment_of e (map entry_of s.records))) (sym same) ∙ ap (trimmed Rattle.model.specs.Histories.round_of commitment_of limits.window) (sym (map-put order filed_under order commitment_of entry_of x s.records (λ _. refl))) ∙ sym (Entries.map-trimmed Rattle.model.specs.Histories.round_of commitment_of entry_of limits.window (put order filed_under x s.records)));
+            (ap (λ e. trimmed rolled_round commitment_of limits.window (put order commitment_of e (map entry_of s.records))) (sym same) ∙ ap (trimmed rolled_round commitment_of limits.window) (sym (map-put order filed_under order commitment_of entry_of x s.records (λ _. refl))) ∙ sym (Entries.map-trimmed rolled_round commitment_of entry_of limits.window (put order filed_under x s.records)));
         ascend = Entries.trimmed_ascends round_of filed_under limits.window (put order filed_under x s.records) rose;
         within = Entries.trimmed-length round_of filed_under limits.window (put order filed_under x s.records) rose (omega arith);
       }
+
+  -- box intake for x: what is shown of all records with its commitment and round is shown of the call
+  drawing : (store : Rec → List Rec) (x : Rec) →
+      ((ps : List Peer) (rs : List Report) (a : Option Action) (y : Rec) → entry_of y ≡ entry_of x → Announcing (record { state = record { records = store y; peers = ps }; answer = answered Held rs a })) →
+      Announcing (box_intake limits m roster store x s)
+  drawing store x shows =
+      box_ways limits m roster s Announcing store x
+      (λ _. shows s.peers [] None x refl)
+      (λ keys _.
+      let ps = all_drawn (wants limits m roster keys x) s.peers in
+      let i = all_taken limits m roster keys x.round.epoch.0 (began x) ps in
+      shows (all_left (wants limits m roster keys x) s.peers) i.reports i.action (advanced i) (drawn_entry limits m roster keys x ps))
 
   announcing : AnnouncedWays limits m roster s Announcing c round
   announcing = record {
     still = still;
     stood = λ o r held at _. stood o s.peers [] None r (observes limits m roster round r) held at refl;
-    led = λ leader r at _ _. drawing (with_leader (Some leader) (observes limits m roster round r)) r at refl;
-    again = λ r w at _ _. drawing (observes limits m roster round r) r at refl;
-    new = λ leader none _ _. entering (new_record c round leader) none refl;
+    led = λ leader r at _ _. again (with_leader (Some leader) (observes limits m roster round r)) r at refl;
+    again = λ r w at _ _. again (observes limits m roster round r) r at refl;
+    new = λ leader none _ _. drawing (λ y. entered y s.records) (new_record c round leader) (λ ps rs a y entry. admitted Held ps rs a y refl none entry);
   }
     where
-      drawing : (x r : Rec) → record_of c s ≡ Some r → entry_of x ≡ raised round (entry_of r) → Announcing (box_intake limits m roster (λ y. replaced y s.records) x s)
-      drawing x r at same =
-          box_ways limits m roster s Announcing (λ y. replaced y s.records) x
-          (λ _. stood Held s.peers [] None r x refl at same)
-          (λ keys _.
-          let i = all_taken limits m roster keys x.round.epoch.0 (began x) (all_drawn (wants limits m roster keys x) s.peers) in
-          stood Held (all_left (wants limits m roster keys x) s.peers) i.reports i.action r (advanced i) refl at
-          (advanced_entry i ∙ taken_entry limits m roster keys x.round.epoch.0 (began x) (all_drawn (wants limits m roster keys x) s.peers) ∙ same))
-
-      entering : (x : Rec) → record_of c s ≡ None → entry_of x ≡ record { commitment = c; round = round } → Announcing (box_intake limits m roster (λ y. entered y s.records) x s)
-      entering x at same =
-          box_ways limits m roster s Announcing (λ y. entered y s.records) x
-          (λ _. admitted Held s.peers [] None x refl at same)
-          (λ keys _.
-          let i = all_taken limits m roster keys x.round.epoch.0 (began x) (all_drawn (wants limits m roster keys x) s.peers) in
-          admitted Held (all_left (wants limits m roster keys x) s.peers) i.reports i.action (advanced i) refl at
-          (advanced_entry i ∙ taken_entry limits m roster keys x.round.epoch.0 (began x) (all_drawn (wants limits m roster keys x) s.peers) ∙ same))
+      again : (x r : Rec) → record_of c s ≡ Some r → entry_of x ≡ raised round (entry_of r) → Announcing (box_intake limits m roster (λ y. replaced y s.records) x s)
+      again x r at same = drawing (λ y. replaced y s.records) x (λ ps rs a y entry. stood Held ps rs a r y refl at (entry ∙ same))
 
   discovered : (leader : List ℕ) → Announcing (discovery_of limits m roster c leader round s)
   discovered leader = discovery_ways limits m roster s Announcing c round announcing leader
@@ -142,16 +138,16 @@ module _ (limits : Limits) (m : Meaning) (roster : Roster) (s : State) (up : Asc
     within : length rs ≤ limits.window
 
   nothing : Same s.records
-  nothing = record { follows = refl; ascend = up; within = few }
+  nothing = grind arith
 
   kept : (c : List ℕ) (r x : Rec) → record_of c s ≡ Some r → entry_of x ≡ entry_of r → Same (replaced x s.records)
   kept c r x at same =
       let key : x.commitment ≡ c = ap commitment_of same ∙ Entries.found_key filed_under c s.records r at in
-      let found : on_roll x.commitment (map entry_of s.records) ≡ Some (entry_of r) = ap (λ k. on_roll k (map entry_of s.records)) key ∙ roll_look c s.records ∙ ap (option_map entry_of) at in
+      let found : on_roll x.commitment (map entry_of s.records) ≡ Some (entry_of r) = grind (arith, roll_look) in
       record {
         follows = sym (map-changed order filed_under order commitment_of entry_of (λ _. x) (λ _. entry_of x) x.commitment x.commitment s.records (λ _. refl) (λ _. refl) ∙ changed_same order commitment_of (λ _. entry_of x) x.commitment (map entry_of s.records) (entry_of r) found same);
         ascend = Entries.replaced_ascends filed_under x s.records up;
-        within = subst (λ n. n ≤ limits.window) (sym (length-changed order filed_under (λ _. x) x.commitment s.records)) few;
+        within = grind (arith, length-changed);
       }
 
   shard_same : (c peer : List ℕ) (x : Indexed) → Same (shard_of limits m roster c peer x s).state.records
@@ -182,16 +178,14 @@ module _ (limits : Limits) (m : Meaning) (roster : Roster) (s : State) (up : Asc
             record { follows = same.follows; ascend = same.ascend; within = same.within };
         fault = λ _ _ _.
             record {
-              follows = sym (map-without order filed_under order commitment_of entry_of c c s.records (λ _. refl));
+              follows = grind (arith, map-without);
               ascend = (Entries.entry_laws filed_under).without_ascends c s.records up;
-              within = let h = without_at_most order filed_under c s.records in omega arith;
+              within = grind (arith, without_at_most);
             };
       }))
 
   looked : (c : List ℕ) (room : ℕ) (o : Option Phase) → Follows limits.window (block_look_up c room) s (block_given limits m roster s o)
-  looked c room None = record { follows = refl; ascend = up; within = few }
-  looked c room (Some (awaiting w)) = record { follows = refl; ascend = up; within = few }
-  looked c room (Some (cached blob)) = record { follows = refl; ascend = up; within = few }
+  looked c room o = grind arith
 
   done_follows : (call : Call) → Follows limits.window call s (done limits m roster s call)
   done_follows (discovery c leader round rooms) =
@@ -209,13 +203,7 @@ module _ (limits : Limits) (m : Meaning) (roster : Roster) (s : State) (up : Asc
   done_follows (verified_look_up c) = record { follows = refl; ascend = up; within = few }
 
   turned : (refusal : Refusal) (call : Call) → Follows limits.window call s (record { state = s; answer = refused refusal })
-  turned refusal (discovery c leader round rooms) = record { follows = refl; ascend = up; within = few }
-  turned refusal (notarization c round rooms) = record { follows = refl; ascend = up; within = few }
-  turned refusal (shard c peer x rooms) = record { follows = refl; ascend = up; within = few }
-  turned refusal (completion c rooms) = record { follows = refl; ascend = up; within = few }
-  turned refusal (peer_change ks) = record { follows = refl; ascend = up; within = few }
-  turned refusal (block_look_up c room) = record { follows = refl; ascend = up; within = few }
-  turned refusal (verified_look_up c) = record { follows = refl; ascend = up; within = few }
+  turned refusal call = grind arith
 
   pub step_follows : (call : Call) → Follows limits.window call s (step limits m roster call s)
   unfolding step
@@ -239,9 +227,6 @@ module _ (limits : Limits) (m : Meaning) (a : Assignment) (h : List Event) (s : 
   pub records_ascend : Ascends order filed_under s.records
   records_ascend = (aligned limits m a h s l).ascend
 
-  pub records_within : length s.records ≤ limits.window
-  records_within = (aligned limits m a h s l).within
-
   -- what the roll has of a commitment is its record's
   pub roll_record : (c : List ℕ) → on_roll c (roll limits.window h) ≡ option_map entry_of (record_of c s)
-  roll_record c = ap (on_roll c) roll_follows ∙ roll_look c s.records
+  roll_record c = grind (arith, roll_follows, roll_look)

@@ -1,6 +1,5 @@
 -- What each call can come to, with what led there: whatever holds of each way holds of the call.
-use Rattle.std.proofs.Common.{◌≡◌, ℕ, true, false, List, [], is_some, Some, None, Option, refl, ap}
-use Rattle.std.proofs.lemmas.Bool.{cond_both}
+use Rattle.std.proofs.Common.{◌≡◌, ℕ, true, false, List, [], is_some, Some, None, Option, refl, ap, arith}
 use Rattle.register.specs.declared.counters.Round.{Round}
 use Rattle.rosters.specs.Sound.{index}
 use Rattle.scheme.specs.Pieces.{Indexed}
@@ -10,19 +9,17 @@ use Rattle.model.specs.Histories.{says_held}
 use Rattle.model.specs.Jobs.{completes, job_in}
 use Rattle.model.specs.Meaning.{Meaning, Roster}
 use Rattle.model.specs.State.{Job, Limits, awaiting, Rec, Shards, State, filed_under, new_record, record_of, round_of, with_leader, with_peers, with_records}
-use Rattle.model.specs.Steps.{Step, all_taken, began, boxes_shard, box_intake, by_phase, completed_by, completion_by, completion_of, discovered_by, discovers, discovery_of, draws, drew, ends, entered, enters, in_epoch, known_shard, led_by, notarization_of, notarized_by, notarizes, observes, replaced, same_epoch, shard_by, shard_of, stays, takes_shard, too_early, wants}
+use Rattle.model.specs.Steps.{Step, all_taken, began, boxes_shard, box_intake, completion_of, discovered_by, discovers, discovery_of, drew, ends, entered, enters, in_epoch, led_by, notarization_of, notarized_by, observes, replaced, same_epoch, shard_of, stays, takes_shard, too_early, wants}
 use Rattle.model.specs.Window.{admits}
 use Rattle.model.specs.declared.answer.Outcome.{Outcome}
-use Rattle.model.specs.declared.answer.Outcome.TheVariants.{NoEpoch, NoMember, OtherEpoch, LeaderStands, Declined, Held, Cached, Ignored, Boxed, NotBoxed}
+use Rattle.model.specs.declared.answer.Outcome.TheVariants.{NoEpoch, NoMember, Held, Boxed}
 use Rattle.model.specs.declared.answer.Refusal.TheVariants.{NoJob}
 use Rattle.runs.proofs.Entries.{by_option, found_key}
-use Rattle.runs.proofs.Intakes.{by_phases}
 
 module _ (limits : Limits) (m : Meaning) (roster : Roster) (s : State) (Q : Step → Type 0) where
   -- box intake draws nothing where the epoch is unknown
   pub box_ways : (store : Rec → List Rec) (r : Rec) → (roster.keys r.round.epoch.0 ≡ None → Q (record { state = with_records (store r) s; answer = answered Held [] None })) → ((keys : List (List ℕ)) → roster.keys r.round.epoch.0 ≡ Some keys → Q (drew limits m roster store Held (all_left (wants limits m roster keys r) s.peers) (all_taken limits m roster keys r.round.epoch.0 (began r) (all_drawn (wants limits m roster keys r) s.peers)))) → Q (box_intake limits m roster store r s)
-  box_ways store r none some =
-      by_option (λ o. Q (draws limits m roster store Held o r s)) (roster.keys r.round.epoch.0) none some
+  box_ways store r none some = grind arith
 
   -- discovery and notarization of c at a round
   pub record AnnouncedWays (c : List ℕ) (round : Round) : Type 0 where
@@ -34,14 +31,10 @@ module _ (limits : Limits) (m : Meaning) (roster : Roster) (s : State) (Q : Step
 
   module _ (c : List ℕ) (round : Round) (ways : AnnouncedWays c round) where
     entering : (leader : Option (List ℕ)) → record_of c s ≡ None → is_some (roster.keys round.epoch.0) ≡ true → Q (enters limits m roster c round leader s)
-    entering leader none known =
-        cond_both (admits round_of filed_under limits.window round s.records) (box_intake limits m roster (λ x. entered x s.records) (new_record c round leader) s) (stays limits m roster Declined s) Q
-        (λ t. ways.new leader none known t) (λ _. ways.still Declined refl)
+    entering leader none known = grind arith
 
     leading : (leader : List ℕ) (r : Rec) → record_of c s ≡ Some r → same_epoch r.round round ≡ true → Q (discovers limits m roster leader r.leader (observes limits m roster round r) s)
-    leading leader r at same =
-        by_option (λ l. Q (discovers limits m roster leader l (observes limits m roster round r) s)) r.leader
-        (λ n. ways.led leader r at same n) (λ l _. ways.stood LeaderStands r refl at same)
+    leading leader r at same = grind arith
 
     pub discovery_ways : (leader : List ℕ) → Q (discovery_of limits m roster c leader round s)
     unfolding discovery_of
@@ -53,10 +46,9 @@ module _ (limits : Limits) (m : Meaning) (roster : Roster) (s : State) (Q : Step
         (λ _. ways.still NoMember refl)
         (λ _ _.
         by_option (λ o. Q (discovered_by limits m roster c leader round s o)) (record_of c s)
-        (λ none. entering (Some leader) none (ap is_some known))
+        (λ none. grind (arith, entering))
         (λ r at.
-        cond_both (same_epoch r.round round) (discovers limits m roster leader r.leader (observes limits m roster round r) s) (stays limits m roster OtherEpoch s) Q
-        (λ same. leading leader r at same) (λ _. ways.still OtherEpoch refl))))
+        grind (arith, leading))))
 
     pub notarization_ways : Q (notarization_of limits m roster c round s)
     unfolding notarization_of
@@ -66,12 +58,7 @@ module _ (limits : Limits) (m : Meaning) (roster : Roster) (s : State) (Q : Step
         by_option (λ o. Q (in_epoch limits m roster o (λ _. enters limits m roster c round None s) s)) (roster.keys round.epoch.0)
         (λ _. ways.still NoEpoch refl) (λ keys known. entering None none (ap is_some known)))
         (λ r at.
-        let x = observes limits m roster round r in
-        cond_both (same_epoch r.round round) (notarizes limits m roster x s) (stays limits m roster OtherEpoch s) Q
-        (λ same.
-        by_phases (λ p. r.phase ≡ p → Q (by_phase p (box_intake limits m roster (λ y. replaced y s.records) x s) (stays limits m roster Cached (with_records (replaced x s.records) s)))) r.phase
-        (λ w early _. ways.again r w at same early) (λ blob _ _. ways.stood Cached r refl at same) refl)
-        (λ _. ways.still OtherEpoch refl))
+        grind arith)
 
   -- a shard from a peer
   pub record ShardWays (c peer : List ℕ) (x : Indexed) : Type 0 where
@@ -82,30 +69,13 @@ module _ (limits : Limits) (m : Meaning) (roster : Roster) (s : State) (Q : Step
   module _ (c peer : List ℕ) (x : Indexed) (ways : ShardWays c peer x) where
     boxing : Q (boxes_shard limits m roster c peer x s)
     unfolding boxes_shard
-    boxing =
-        cond_both (is_primary peer s.peers) (stays limits m roster Boxed (with_peers (boxes_with limits.boxes peer (record { commitment = c; shard = x }) s.peers) s)) (stays limits m roster NotBoxed s) Q
-        (λ t. ways.boxed t) (λ _. ways.still NotBoxed)
+    boxing = grind arith
 
     pub shard_ways : Q (shard_of limits m roster c peer x s)
     unfolding shard_of
-    shard_ways =
-        by_option (λ o. Q (shard_by limits m roster c peer x s o)) (record_of c s)
-        (λ _. boxing)
-        (λ r at.
-        cond_both (by_phase r.phase false r.verified) (stays limits m roster Ignored s) (in_epoch limits m roster (roster.keys r.round.epoch.0) (known_shard limits m roster peer x r s) s) Q
-        (λ _. ways.still Ignored)
-        (λ _.
-        by_option (λ o. Q (in_epoch limits m roster o (known_shard limits m roster peer x r s) s)) (roster.keys r.round.epoch.0)
-        (λ _. ways.still NoEpoch)
-        (λ keys known.
-        cond_both (too_early limits m roster r.leader (index peer keys) x.index) (boxes_shard limits m roster r.commitment peer x s) (takes_shard limits m roster keys peer x r s) Q
-        (λ _. rw (found_key filed_under c s.records r at) boxing)
-        (λ late. ways.takes r keys at known late))))
+    shard_ways = grind (arith, boxing, found_key)
 
   -- a job is completed
   pub completion_ways : (c : List ℕ) → Q (record { state = s; answer = refused NoJob }) → ((r : Rec) (j : Job) → record_of c s ≡ Some r → job_in r.phase ≡ Some j → Q (ends limits m roster c j s (completes m limits.blob j r))) → Q (completion_of limits m roster c s)
   unfolding completion_of
-  completion_ways c none some =
-      by_option (λ o. Q (completion_by limits m roster c s o)) (record_of c s)
-      (λ _. none)
-      (λ r at. by_option (λ o. Q (completed_by limits m roster c s r o)) (job_in r.phase) (λ _. none) (λ j out. some r j at out))
+  completion_ways c none some = grind arith

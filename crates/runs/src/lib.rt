@@ -6,22 +6,16 @@ ghost use Rattle.runs.specs.Causes.{NeverWithoutCause};
 ghost use Rattle.runs.specs.Rolls.{RollsFollow};
 
 // The roll, kept from calls and answers alone, tells the records' commitments and rounds.
-pub fn rolls_follow() -> u8
+pub fn rolls_follow()
     ensures { RollsFollow }
-{
-    0
-}
+{}
 
 // Who keeps to the rules is never reported.
-pub fn nobody_without_cause() -> u8
+pub fn nobody_without_cause()
     ensures { NeverWithoutCause }
-{
-    0
-}
+{}
 
 // A block that is given is what good shards, each handed in, open to.
-pub fn blocks_were_handed_in() -> u8
+pub fn blocks_were_handed_in()
     ensures { AlwaysHandedIn }
-{
-    0
-}
+{}
