@@ -28,22 +28,14 @@ fn one_round(t: usize, w: u32, s: [u32; 8]) -> [u32; 8]
     requires { t < 64 }
     ensures { result ≡ round (slice_index K t) w s }
 {
-    let t1 = s[7]
-        .wrapping_add(big_sigma1(s[4]))
-        .wrapping_add(ch(s[4], s[5], s[6]))
+    let [a, b, c, d, e, f, g, h] = s;
+    let t1 = h
+        .wrapping_add(big_sigma1(e))
+        .wrapping_add(ch(e, f, g))
         .wrapping_add(constant(t))
         .wrapping_add(w);
-    let t2 = big_sigma0(s[0]).wrapping_add(maj(s[0], s[1], s[2]));
-    [
-        t1.wrapping_add(t2),
-        s[0],
-        s[1],
-        s[2],
-        s[3].wrapping_add(t1),
-        s[4],
-        s[5],
-        s[6],
-    ]
+    let t2 = big_sigma0(a).wrapping_add(maj(a, b, c));
+    [t1.wrapping_add(t2), a, b, c, d.wrapping_add(t1), e, f, g]
 }
 
 // Sixteen rounds from round t on, where w holds W t to W (t + 15).
@@ -107,16 +99,7 @@ fn slide_sixteen(w: [u32; 16]) -> [u32; 16]
 fn add_words(x: [u32; 8], y: [u32; 8]) -> [u32; 8]
     ensures { result ≡ sums x y }
 {
-    [
-        x[0].wrapping_add(y[0]),
-        x[1].wrapping_add(y[1]),
-        x[2].wrapping_add(y[2]),
-        x[3].wrapping_add(y[3]),
-        x[4].wrapping_add(y[4]),
-        x[5].wrapping_add(y[5]),
-        x[6].wrapping_add(y[6]),
-        x[7].wrapping_add(y[7]),
-    ]
+    std::array::from_fn(|i| x[i].wrapping_add(y[i]))
 }
 
 // The hash value after the block of the words m.
@@ -124,14 +107,12 @@ pub fn next_hash(h: [u32; 8], m: [u32; 16]) -> [u32; 8]
     ensures { result ≡ compress h m }
 {
     let mut w = m;
-    let mut s = h;
-    for i in 0..4 {
-        let after = sixteen_rounds(16 * i, w, s);
+    let mut s = sixteen_rounds(0, w, h);
+    for i in 1..4 {
+        let following = slide_sixteen(w);
+        let after = sixteen_rounds(16 * i, following, s);
+        w = following;
         s = after;
-        if i < 3 {
-            let following = slide_sixteen(w);
-            w = following;
-        }
     }
     add_words(s, h)
 }
