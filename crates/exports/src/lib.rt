@@ -10,6 +10,7 @@ use sha3::Sha3;
 use sha256::Sha256;
 
 // The digest of `first` followed by `second`, where `out` has 32 bytes; else false, and `out` stands as before.
+// A bool, and no Option, since that is what C is handed.
 fn digest_into<H: Hash>(hash: &H, first: &[u8], second: &[u8], out: &mut [u8]) -> bool
     ensures fits { result ≡ (length out.old == 32) }
     ensures after { out.new ≡ (if result then H.digest hash.now (first.now ++ second.now) else out.old) }
