@@ -1,9 +1,8 @@
 -- The padded message as three parts, and what a block of it is.
-use Rattle.std.proofs.Common.{◌≡◌, ℕ, ◌+◌, ◌-◌, ◌*◌, ◌/◌, ◌%◌, ◌^◌, ◌<◌, ◌≤◌, min, List, [], ◌∷◌, ◌++◌, length, take, drop, replicate, sym, refl, ap, ◌∙◌, ⊎_elim, div-one, add-one, arith}
-use lib.Seq.{paste, drop-append-add, take-append-add}
+use Rattle.std.proofs.Common.{◌≡◌, ℕ, ◌+◌, ◌-◌, ◌*◌, ◌/◌, ◌%◌, ◌^◌, ◌<◌, ◌≤◌, min, List, [], ◌∷◌, ◌++◌, length, take, drop, replicate, sym, refl, ap, ◌∙◌, ⊎_elim, div-one, arith}
+use Rattle.std.proofs.Math.Seq.{drop-append-add, take-append-add}
 use Rattle.std.proofs.lemmas.Bool.{cases_lt}
 use Rattle.std.proofs.lemmas.List.{append_assoc, length-take-le, take-take, drop_all, drop-append-le, length-append, length-drop, length-replicate, take_all, take-append-le, take-replicate}
-use Rattle.std.proofs.lemmas.List.Edits.{take-paste}
 use Rattle.std.proofs.lemmas.Nat.{mod_below}
 use Rattle.std.proofs.lemmas.Slice.{take-put_mid}
 use borrow.Rule.Slice.PartMut.{put_mid}
@@ -32,36 +31,33 @@ zeros-below : (n : ℕ) → zeros n < 64
 unfolding zeros
 zeros-below n = mod_below (119 - n % 64) 64 (omega arith)
 
-abbrev start : List ℕ
-start = 0x80 ∷ replicate 71 0
-
-front_is : (z : ℕ) → z ≤ 71 → take (z + 1) start ≡ 0x80 ∷ replicate z 0
-front_is z h = simp add-one (ap (λ (t : List ℕ). 0x80 ∷ t) (take-replicate {X = ℕ} z 71 0 h))
-
-pub padding_is : (n : ℕ) {f : List ℕ} → f ≡ bit_length n → take (zeros n + 9) (paste start (zeros n + 1) f 8) ≡ padding n
+-- what three calls of `append` leave in a buffer of 72 bytes
+pub padding_is : (n : ℕ) {x₁ x₂ x₃ z f : List ℕ} → x₁ ≡ take 72 (0x80 ∷ []) → z ≡ take (zeros n) (replicate 64 0) → x₂ ≡ take 72 (x₁ ++ z)
+    → f ≡ bit_length n → x₃ ≡ take 72 (x₂ ++ f) → x₃ ≡ padding n
 unfolding padding
-padding_is n {f} e =
+padding_is n {x₁} {x₂} {x₃} {z} {f} x₁-is z-is x₂-is f-is x₃-is =
     let below = zeros-below n in
-    let at : zeros n + 9 ≡ zeros n + 1 + 8 = omega arith in
-    let long : length f ≡ 8 = ap length e ∙ length_field n in
-    let whole = take_all 8 f (omega arith) in
-    ap (λ k. take k (paste start (zeros n + 1) f 8)) at ∙ take-paste start (zeros n + 1) f 8 (omega arith) (omega arith)
-    ∙ ap (λ x. x ++ take 8 f) (front_is (zeros n) (omega arith))
-    ∙ ap (λ (x : List ℕ). 0x80 ∷ (replicate (zeros n) 0 ++ x)) (whole ∙ e)
+    let z₀ : z ≡ replicate (zeros n) 0 = z-is ∙ take-replicate {X = ℕ} (zeros n) 64 0 (omega arith) in
+    let long = length-padding n in
+    let front : x₂ ≡ 0x80 ∷ replicate (zeros n) 0 =
+    x₂-is ∙ ap (λ (x : List ℕ). take 72 (x ++ z)) x₁-is ∙ ap (λ (x : List ℕ). take 72 (0x80 ∷ x)) z₀
+    ∙ take_all 72 (0x80 ∷ replicate (zeros n) 0) (omega (arith, length-replicate {A = ℕ} (zeros n) 0)) in
+    x₃-is ∙ ap (λ (x : List ℕ). take 72 (x ++ f)) front ∙ ap (λ (x : List ℕ). take 72 (0x80 ∷ (replicate (zeros n) 0 ++ x))) f-is
+    ∙ take_all 72 (padding n) (omega arith)
 
--- what fits of y after x in a block
-pub append_is : (x y : List ℕ) (n : ℕ) → n ≡ min (length y) (64 - length x) → length x ≤ 64 → x ++ take n y ≡ take 64 (x ++ y)
-append_is x y n e h =
-    let all : length x + (64 - length x) ≡ 64 = omega arith in
-    let whole = take-append-add x y (64 - length x) in
+-- what fits of y after x in a buffer of N bytes
+append_is : (N : ℕ) (x y : List ℕ) (n : ℕ) → n ≡ min (length y) (N - length x) → length x ≤ N → x ++ take n y ≡ take N (x ++ y)
+append_is N x y n e h =
+    let all : length x + (N - length x) ≡ N = omega arith in
+    let whole = take-append-add x y (N - length x) in
     ap (λ t. x ++ t) (same n e) ∙ sym (simp all at whole)
   where
-    same : (k : ℕ) → k ≡ min (length y) (64 - length x) → take k y ≡ take (64 - length x) y
+    same : (k : ℕ) → k ≡ min (length y) (N - length x) → take k y ≡ take (N - length x) y
     same k p =
         ⊎_elim
         (λ less. ap (λ i. take i y) (omega arith))
-        (λ more. take_all k y (omega arith) ∙ sym (take_all (64 - length x) y (omega arith)))
-        (cases_lt (64 - length x) (length y))
+        (λ more. take_all k y (omega arith) ∙ sym (take_all (N - length x) y (omega arith)))
+        (cases_lt (N - length x) (length y))
 
 drop-append : (n : ℕ) (x y : List ℕ) → drop n (x ++ y) ≡ drop n x ++ drop (n - length x) y
 drop-append n x y =
@@ -94,7 +90,7 @@ block_behind at a b h =
     sym (ap (take 64) (drop-append at a b ∙ ap (λ t. t ++ drop (at - length a) b) (drop_all at a h)))
 
 -- a block gathered from three parts
-pub gathered : (at : ℕ) (a b c : List ℕ)
+gathered : (at : ℕ) (a b c : List ℕ)
     → take 64 (take 64 (take 64 (drop at a) ++ drop (at - length a) b) ++ drop (at - (length a + length b)) c)
     ≡ take 64 (drop at (a ++ (b ++ c)))
 gathered at a b c =
@@ -106,42 +102,39 @@ gathered at a b c =
     ap (λ t. take 64 (t ++ z)) (take-front x y) ∙ take-front (x ++ y) z ∙ ap (take 64) (append_assoc x y z)
     ∙ ap (take 64) (sym (drop-append at a (b ++ c) ∙ ap (λ t. x ++ t) inner))
 
+pub block_long : (i : ℕ) (p : List ℕ) {x s : List ℕ} → i < length p / 64 → x ≡ take 64 (drop (64 * i) p) → s ≡ x → length s ≡ 64
+block_long i p {x} {s} inside x-is s-is =
+    let left = length-drop (64 * i) p in
+    ap length (s-is ∙ x-is) ∙ length-take-le 64 (drop (64 * i) p) (omega arith)
+
 -- what `append` leaves
-pub appended : (xs part mid : List ℕ) (filled n : ℕ) → length xs ≡ 64 → filled ≤ 64 → n ≡ min (length part) (64 - filled)
+pub appended : (N : ℕ) (xs part mid : List ℕ) (filled n : ℕ) → length xs ≡ N → filled ≤ N → n ≡ min (length part) (N - filled)
     → mid ≡ take n part
-    → take (filled + n) (put_mid filled (filled + n - filled) xs mid) ≡ take 64 (take filled xs ++ part)
-appended xs part mid filled n long h e mid-is =
+    → take (filled + n) (put_mid filled (filled + n - filled) xs mid) ≡ take N (take filled xs ++ part)
+appended N xs part mid filled n long h e mid-is =
     let front = length-take-le filled xs (omega arith) in
     let size = length-take-le n part (omega arith) in
     let same : length mid ≡ n = ap length mid-is ∙ size in
     take-put_mid filled (filled + n - filled) xs mid (filled + n) (omega arith) (omega arith)
     ∙ ap (λ t. take filled xs ++ t) mid-is
-    ∙ append_is (take filled xs) part n (omega arith) (omega arith)
+    ∙ append_is N (take filled xs) part n (omega arith) (omega arith)
 
--- what three calls of `append` leave
-pub gather_is : (at : ℕ) (a b c b₁ b₂ b₃ : List ℕ) {r₁ r₂ r₃ : List ℕ} {n₁ n₂ n₃ p q : ℕ}
-    → at + 64 ≤ length a + length b + length c
-    → r₁ ≡ drop at a → n₁ ≡ min 64 (0 + length r₁) → take n₁ b₁ ≡ take 64 r₁
-    → p ≡ at - length a → r₂ ≡ drop p b → n₂ ≡ min 64 (n₁ + length r₂) → take n₂ b₂ ≡ take 64 (take n₁ b₁ ++ r₂)
-    → q ≡ at - (length a + length b) → r₃ ≡ drop q c → n₃ ≡ min 64 (n₂ + length r₃) → take n₃ b₃ ≡ take 64 (take n₂ b₂ ++ r₃)
-    → length b₃ ≡ 64 → b₃ ≡ take 64 (drop at (a ++ (b ++ c)))
-gather_is at a b c b₁ b₂ b₃ {r₁} {r₂} {r₃} {n₁} {n₂} {n₃} {p} {q} h r₁-is n₁-is t₁ p-is r₂-is n₂-is t₂ q-is r₃-is n₃-is t₃ long =
-    let l₁ = ap length r₁-is ∙ length-drop at a in
-    let l₂ = ap length r₂-is ∙ length-drop p b in
-    let l₃ = ap length r₃-is ∙ length-drop q c in
-    let full : n₃ ≡ 64 = omega arith in
-    let whole = take_all 64 b₃ (omega arith) in
+-- what three calls of `append` leave in a buffer of a block
+pub gather_is : (at : ℕ) (a b c : List ℕ) {x₁ x₂ x₃ r₁ r₂ r₃ : List ℕ} {p q : ℕ}
+    → r₁ ≡ drop at a → x₁ ≡ take 64 r₁
+    → p ≡ at - length a → r₂ ≡ drop p b → x₂ ≡ take 64 (x₁ ++ r₂)
+    → q ≡ at - (length a + length b) → r₃ ≡ drop q c → x₃ ≡ take 64 (x₂ ++ r₃)
+    → x₃ ≡ take 64 (drop at (a ++ (b ++ c)))
+gather_is at a b c r₁-is x₁-is p-is r₂-is x₂-is q-is r₃-is x₃-is =
     let parts = gathered at a b c in
     cc
 
--- the parts together are the padded message
+-- the padded message as parts
 pub sha256_is : (a b c : List ℕ) → c ≡ padding (length a + length b)
-    → bytes (hashes ((length a + length b + length c) / 64) (a ++ (b ++ c))) ≡ sha256 (a ++ b)
+    → bytes (hashes (length (a ++ (b ++ c)) / 64) (a ++ (b ++ c))) ≡ sha256 (a ++ b)
 unfolding sha256
 sha256_is a b c e =
     let n = length-append a b in
-    let all = length-append (a ++ b) (padding (length (a ++ b))) in
     let same : c ≡ padding (length (a ++ b)) = cc in
-    let size : length a + length b + length c ≡ length ((a ++ b) ++ padding (length (a ++ b))) = omega (arith, ap length same) in
     let joined = append_assoc a b c in
     cc

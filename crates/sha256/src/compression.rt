@@ -28,25 +28,18 @@ fn one_round(t: usize, w: u32, s: [u32; 8]) -> [u32; 8]
     requires { t < 64 }
     ensures { result ≡ round (slice_index K t) w s }
 {
-    let t1 = s[7]
-        .wrapping_add(big_sigma1(s[4]))
-        .wrapping_add(ch(s[4], s[5], s[6]))
+    let [a, b, c, d, e, f, g, h] = s;
+    let t1 = h
+        .wrapping_add(big_sigma1(e))
+        .wrapping_add(ch(e, f, g))
         .wrapping_add(constant(t))
         .wrapping_add(w);
-    let t2 = big_sigma0(s[0]).wrapping_add(maj(s[0], s[1], s[2]));
-    [
-        t1.wrapping_add(t2),
-        s[0],
-        s[1],
-        s[2],
-        s[3].wrapping_add(t1),
-        s[4],
-        s[5],
-        s[6],
-    ]
+    let t2 = big_sigma0(a).wrapping_add(maj(a, b, c));
+    [t1.wrapping_add(t2), a, b, c, d.wrapping_add(t1), e, f, g]
 }
 
 // Sixteen rounds from round t on, where w holds W t to W (t + 15).
+// Written out: with a loop, `for j in 0..16 { s = one_round(t + j, w[j], s) }`, the hash takes a fifth longer.
 fn sixteen_rounds(t: usize, w: [u32; 16], s: [u32; 8]) -> [u32; 8]
     requires { t + 16 ≤ 64 }
     ensures { result ≡ rounds_over 16 t w s }
@@ -77,6 +70,7 @@ fn slide_one(w: [u32; 16]) -> [u32; 16]
         .wrapping_add(w[9])
         .wrapping_add(small_sigma0(w[1]))
         .wrapping_add(w[0]);
+    // `std::array::from_fn(|j| if j < 15 { w[j + 1] } else { next })` is no plainer.
     [
         w[1], w[2], w[3], w[4], w[5], w[6], w[7], w[8], w[9], w[10], w[11], w[12], w[13], w[14],
         w[15], next,
@@ -86,37 +80,18 @@ fn slide_one(w: [u32; 16]) -> [u32; 16]
 fn slide_sixteen(w: [u32; 16]) -> [u32; 16]
     ensures { result ≡ slid 16 w }
 {
-    let w1 = slide_one(w);
-    let w2 = slide_one(w1);
-    let w3 = slide_one(w2);
-    let w4 = slide_one(w3);
-    let w5 = slide_one(w4);
-    let w6 = slide_one(w5);
-    let w7 = slide_one(w6);
-    let w8 = slide_one(w7);
-    let w9 = slide_one(w8);
-    let w10 = slide_one(w9);
-    let w11 = slide_one(w10);
-    let w12 = slide_one(w11);
-    let w13 = slide_one(w12);
-    let w14 = slide_one(w13);
-    let w15 = slide_one(w14);
-    slide_one(w15)
+    (0..16usize).fold(
+        w,
+        |w, _|
+            ensures { result ≡ slide w }
+        { slide_one(w) },
+    )
 }
 
 fn add_words(x: [u32; 8], y: [u32; 8]) -> [u32; 8]
     ensures { result ≡ sums x y }
 {
-    [
-        x[0].wrapping_add(y[0]),
-        x[1].wrapping_add(y[1]),
-        x[2].wrapping_add(y[2]),
-        x[3].wrapping_add(y[3]),
-        x[4].wrapping_add(y[4]),
-        x[5].wrapping_add(y[5]),
-        x[6].wrapping_add(y[6]),
-        x[7].wrapping_add(y[7]),
-    ]
+    std::array::from_fn(|i| x[i].wrapping_add(y[i]))
 }
 
 // The hash value after the block of the words m.
@@ -124,14 +99,13 @@ pub fn next_hash(h: [u32; 8], m: [u32; 16]) -> [u32; 8]
     ensures { result ≡ compress h m }
 {
     let mut w = m;
-    let mut s = h;
-    for i in 0..4 {
-        let after = sixteen_rounds(16 * i, w, s);
+    let mut s = sixteen_rounds(0, w, h);
+    // A fold would carry both, `(1..4).fold((s, w), |(s, w), i| ..)`, and is no plainer.
+    for i in 1..4 {
+        let following = slide_sixteen(w);
+        let after = sixteen_rounds(16 * i, following, s);
+        w = following;
         s = after;
-        if i < 3 {
-            let following = slide_sixteen(w);
-            w = following;
-        }
     }
     add_words(s, h)
 }

@@ -1,60 +1,23 @@
 // The padded message as three parts that are not joined in memory, read a block at a time.
-ghost use Rattle.std.specs.Prelude.{◌≡◌, ◌+◌, ◌-◌, ◌*◌, ◌^◌, ◌<◌, ◌≤◌, min, ◌++◌, length, take, drop};
-ghost use Rattle.std.proofs.Math.Seq.{paste};
-ghost use Rattle.sha256.specs.Fips180.{padding, word, words};
+ghost use Rattle.std.specs.Prelude.{◌≡◌, ℕ, ◌+◌, ◌*◌, ◌/◌, ◌^◌, ◌<◌, ◌≤◌, List, ◌++◌, length, take, drop};
+ghost use Rattle.sha256.specs.Fips180.{block, padding, word, words};
 
-// The padding of a message stands in the first `len` bytes.
-#[derive(Drop)]
-pub struct Padding {
-    pub bytes: [u8; 72],
-    pub len: usize,
-}
-
-fn put(bytes: &mut [u8; 72], at: usize, field: [u8; 8])
-    requires { at ≤ 64 }
-    ensures { bytes.new ≡ paste bytes.old at field 8 }
-{
-    bytes[at..at + 8].copy_from_slice(&field);
-}
+use crate::buffer::Buffer;
+use hash::parts::{after, array_at};
+use std::marker::Model;
 
 // The padding of a message of n bytes.
-pub fn padding_of(n: u128) -> Padding
+pub fn padding_of(n: u128) -> Buffer<72>
     requires { n < 2 ^ 65 }
-    ensures len { result.len ≡ length (padding n) }
-    ensures fits { result.len ≤ 72 }
-    ensures bytes { take result.len result.bytes ≡ padding n }
+    ensures { result ≡ padding n }
 {
     let zeros = (119 - (n % 64) as usize) % 64;
     let bit_length = (n * 8 % 0x1_0000_0000_0000_0000) as u64;
-    let mut bytes = [0u8; 72];
-    bytes[0] = 0x80;
-    put(&mut bytes, zeros + 1, bit_length.to_be_bytes());
-    Padding {
-        bytes,
-        len: zeros + 9,
-    }
-}
-
-// What is left of `part` from `at` on.
-fn rest(part: &[u8], at: u128) -> &[u8]
-    ensures { result.now ≡ drop at part.now }
-{
-    if at < part.len() as u128 {
-        &part[at as usize..]
-    } else {
-        &[]
-    }
-}
-
-// Writes what fits of `part` after the first `filled` bytes of the block, and returns how many are filled then.
-fn append(block: &mut [u8; 64], filled: usize, part: &[u8]) -> usize
-    requires { filled ≤ 64 }
-    ensures count { result ≡ min 64 (filled + length part.now) }
-    ensures front { take result block.new ≡ take 64 (take filled block.old ++ part.now) }
-{
-    let n = part.len().min(64 - filled);
-    block[filled..filled + n].copy_from_slice(&part[0..n]);
-    filled + n
+    let mut padding = Buffer::new();
+    padding.append(&[0x80]);
+    padding.append(&[0; 64][..zeros]);
+    padding.append(&bit_length.to_be_bytes());
+    padding
 }
 
 // The word at j of a block.
@@ -62,65 +25,80 @@ fn word_at(block: &[u8], j: usize) -> u32
     requires { j + 4 ≤ length block.now }
     ensures { result ≡ word block.now j }
 {
-    u32::from_be_bytes([block[j], block[j + 1], block[j + 2], block[j + 3]])
+    u32::from_be_bytes(array_at::<4>(block, j))
 }
 
 fn block_words(block: &[u8]) -> [u32; 16]
     requires { length block.now ≡ 64 }
     ensures { result ≡ words block.now }
 {
-    [
-        word_at(block, 0),
-        word_at(block, 4),
-        word_at(block, 8),
-        word_at(block, 12),
-        word_at(block, 16),
-        word_at(block, 20),
-        word_at(block, 24),
-        word_at(block, 28),
-        word_at(block, 32),
-        word_at(block, 36),
-        word_at(block, 40),
-        word_at(block, 44),
-        word_at(block, 48),
-        word_at(block, 52),
-        word_at(block, 56),
-        word_at(block, 60),
-    ]
+    std::array::from_fn(|j| word_at(block, 4 * j))
 }
 
-// The 64 bytes from `at` on of the three parts, one after the other.
-fn gather(first: &[u8], second: &[u8], pad: &[u8], at: u128) -> [u8; 64]
-    requires { at + 64 ≤ length first.now + length second.now + length pad.now }
-    ensures { result ≡ take 64 (drop at (first.now ++ (second.now ++ pad.now))) }
-{
-    let before_second = first.len() as u128;
-    let before_pad = before_second + second.len() as u128;
-    let mut block = [0u8; 64];
-    let filled = append(&mut block, 0, rest(first, at));
-    let filled = append(
-        &mut block,
-        filled,
-        rest(second, at.saturating_sub(before_second)),
-    );
-    let _ = append(&mut block, filled, rest(pad, at.saturating_sub(before_pad)));
-    block
+// A message in two parts, and its padding. Contracts see the three joined.
+#[derive(Drop)]
+pub struct Parts<'a> {
+    first: &'a [u8],
+    second: &'a [u8],
+    padding: &'a [u8],
 }
 
-// The words of the block from `at` on. A block that lies whole in one part is read where it lies.
-pub fn read_block(first: &[u8], second: &[u8], pad: &[u8], at: u128) -> [u32; 16]
-    requires { at + 64 ≤ length first.now + length second.now + length pad.now }
-    ensures { result ≡ words (take 64 (drop at (first.now ++ (second.now ++ pad.now)))) }
-{
-    let before_second = first.len() as u128;
-    let before_pad = before_second + second.len() as u128;
-    if at + 64 <= before_second {
-        let from = at as usize;
-        block_words(&first[from..from + 64])
-    } else if before_second <= at && at + 64 <= before_pad {
-        let from = (at - before_second) as usize;
-        block_words(&second[from..from + 64])
-    } else {
-        block_words(&gather(first, second, pad, at))
+impl<'a> Model for Parts<'a> {
+    ghost Value = { List ℕ };
+
+    ghost view = { λ p. p.first.now ++ (p.second.now ++ p.padding.now) };
+}
+
+impl<'a> Parts<'a> {
+    pub fn new(first: &'a [u8], second: &'a [u8], padding: &'a [u8]) -> Self
+        ensures { result ≡ first.now ++ (second.now ++ padding.now) }
+    {
+        Parts {
+            first,
+            second,
+            padding,
+        }
+    }
+
+    // How many whole blocks there are.
+    pub fn blocks(&self) -> usize
+        ensures { result ≡ length self.now / 64 }
+    {
+        let bytes = self.first.len() as u128
+            + self.second.len() as u128
+            + self.padding.len() as u128;
+        (bytes / 64) as usize
+    }
+
+    // A block's bytes from `at` on, or what is left, copied from the parts that they lie in.
+    fn gather(&self, at: u128) -> Buffer<64>
+        ensures { result ≡ take 64 (drop at self.now) }
+    {
+        let before_second = self.first.len() as u128;
+        let before_padding = before_second + self.second.len() as u128;
+        let mut block = Buffer::new();
+        block.append(after(self.first, at));
+        block.append(after(self.second, at.saturating_sub(before_second)));
+        block.append(after(self.padding, at.saturating_sub(before_padding)));
+        block
+    }
+
+    // The words of block i. A block that lies whole in one part is read where it lies.
+    pub fn block(&self, i: usize) -> [u32; 16]
+        requires { i < length self.now / 64 }
+        ensures { result ≡ words (block i self.now) }
+    {
+        let at = 64 * i as u128;
+        let before_second = self.first.len() as u128;
+        let before_padding = before_second + self.second.len() as u128;
+        if at + 64 <= before_second {
+            let from = at as usize;
+            block_words(&self.first[from..from + 64])
+        } else if before_second <= at && at + 64 <= before_padding {
+            let from = (at - before_second) as usize;
+            block_words(&self.second[from..from + 64])
+        } else {
+            block_words(self.gather(at).as_slice())
+        }
     }
 }

@@ -1,13 +1,10 @@
-use Rattle.std.proofs.Common.{◌+◌, take, sym, ap, ◌∙◌, arith}
+use Rattle.std.proofs.Common.{refl}
 use Rattle.sha256.specs.Fips180.{zeros}
-use Rattle.sha256.proofs.Parts.{field_is, length-padding, padding_is}
+use Rattle.sha256.proofs.Parts.{field_is, padding_is}
 use Rattle.sha256.proofs.message.padding_of.Goals as goal
 
 pub returns : goal.returns
 unfolding zeros
 returns c =
-    record {
-      len = sym (length-padding c.args.n);
-      fits = omega arith;
-      bytes = ap (take (zeros c.args.n + 9)) c.put.ensures ∙ padding_is c.args.n (field_is c.args.n c.to_be_bytes.ensures);
-    }
+    padding_is c.args.n (simp c.new-padding.ensures at c.append.ensures) refl c.append-2.ensures
+    (field_is c.args.n c.to_be_bytes.ensures) c.append-3.ensures
