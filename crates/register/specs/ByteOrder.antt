@@ -1,30 +1,34 @@
--- The order on byte strings is total: it reverses, it is transitive, and equal is the same string. Assumes nothing.
+-- The order on byte strings is the library's of slices of bytes, and total: it reverses, it is transitive, and equal is the same string. Assumes nothing.
 use Rattle.std.specs.Prelude.{◌≡◌, ℕ, List, [], ◌∷◌, refl}
 use Rattle.std.specs.declared.cmp.Ordering.TheVariants.{Less, Equal}
-use Rattle.std.proofs.Common.{ap, arith}
+use Rattle.std.proofs.Common.{◌∙◌, subst, arith}
 use Rattle.std.proofs.lemmas.Bool.Decides.{nat_tests}
-use Rattle.std.specs.Ordering.{ordering_reverse}
+use Rattle.std.specs.Cmp.{IsTotalOrder}
+use Rattle.std.specs.Cmp.Lexicographic.{nat_list_cmp_total, slice_cmp}
+use Rattle.std.specs.FinMap.{nat_cmp-IsAntisymmetric, slice_cmp-IsAntisymmetric}
+use Rattle.std.specs.Ordering.{nat_cmp, ordering_reverse}
 use Rattle.register.specs.Order.{order}
 
+pub slice_order : (xs ys : List ℕ) → slice_cmp nat_cmp xs ys ≡ order xs ys
+slice_order [] [] = refl
+slice_order [] (y ∷ ys) = refl
+slice_order (x ∷ xs) [] = refl
+slice_order (x ∷ xs) (y ∷ ys) = let h = slice_order xs ys in grind (arith, nat_tests)
+
+pub slice_same : (xs ys : List ℕ) → slice_cmp nat_cmp xs ys ≡ Equal → xs ≡ ys
+slice_same xs ys e = slice_cmp-IsAntisymmetric nat_cmp-IsAntisymmetric xs ys e
+
+pub order_total : IsTotalOrder order
+order_total = subst IsTotalOrder (λ i xs ys. slice_order xs ys i) nat_list_cmp_total
+
 pub order_reverses : (xs ys : List ℕ) → order ys xs ≡ ordering_reverse (order xs ys)
-order_reverses [] [] = refl
-order_reverses [] (y ∷ ys) = refl
-order_reverses (x ∷ xs) [] = refl
-order_reverses (x ∷ xs) (y ∷ ys) = let h = order_reverses xs ys in grind (arith, nat_tests)
+order_reverses xs ys = order_total.antisymm ys xs
 
 pub order_same : (xs ys : List ℕ) → order xs ys ≡ Equal → xs ≡ ys
-order_same [] [] e = refl
-order_same [] (y ∷ ys) e = absurd (let z : ◌≡◌ {A = ℕ} 0 1 = cc in omega arith)
-order_same (x ∷ xs) [] e = absurd (let z : ◌≡◌ {A = ℕ} 0 1 = cc in omega arith)
-order_same (x ∷ xs) (y ∷ ys) e = let h = order_same xs ys in grind (arith, nat_tests)
+order_same xs ys e = slice_same xs ys (slice_order xs ys ∙ e)
 
 pub order_ascends : (xs ys zs : List ℕ) → order xs ys ≡ Less → order ys zs ≡ Less → order xs zs ≡ Less
-order_ascends [] [] zs e f = f
-order_ascends [] (y ∷ ys) [] e f = absurd (let z : ◌≡◌ {A = ℕ} 0 1 = cc in omega arith)
-order_ascends [] (y ∷ ys) (z ∷ zs) e f = refl
-order_ascends (x ∷ xs) [] zs e f = absurd (let z : ◌≡◌ {A = ℕ} 0 1 = cc in omega arith)
-order_ascends (x ∷ xs) (y ∷ ys) [] e f = absurd (let z : ◌≡◌ {A = ℕ} 0 1 = cc in omega arith)
-order_ascends (x ∷ xs) (y ∷ ys) (z ∷ zs) e f = let h = order_ascends xs ys zs in grind (arith, nat_tests)
+order_ascends = order_total.trans
 
 pub order_ties : (xs ys zs : List ℕ) → order xs ys ≡ Equal → order xs zs ≡ order ys zs
-order_ties xs ys zs e = ap (λ (s : List ℕ). order s zs) (order_same xs ys e)
+order_ties = order_total.congr

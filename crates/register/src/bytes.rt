@@ -24,24 +24,9 @@ pub fn same(a: &[u8], b: &[u8]) -> bool
 }
 
 // As unsigned bytes from the first; it ends at the first pair that differs.
+#[tactic(auto, using(crate::specs::ByteOrder::slice_order))]
 pub fn compare(a: &[u8], b: &[u8]) -> Ordering
     ensures { result ≡ order a.now b.now }
 {
-    let mut i = 0;
-    loop {
-        if i == a.len() {
-            break if i == b.len() {
-                Ordering::Equal
-            } else {
-                Ordering::Less
-            };
-        }
-        if i == b.len() || a[i] > b[i] {
-            break Ordering::Greater;
-        }
-        if a[i] < b[i] {
-            break Ordering::Less;
-        }
-        i += 1;
-    }
+    a.cmp(b)
 }

@@ -2,34 +2,34 @@
 use Rattle.std.specs.Prelude.{◌≡◌, ℕ, Bool, true, cond, List, take, Some, None, Ok, Err, Option, Result, ◌≢◌}
 use Rattle.std.specs.declared.cmp.Ordering.{Ordering}
 use Rattle.std.specs.Option.{option_map}
+use Rattle.register.specs.declared.counters.Epoch.{Epoch}
 use Rattle.table.specs.Laws.{look}
 use Rattle.table.specs.Table.{changed, put}
 use Rattle.table.specs.declared.Refusal.{Refusal}
 use Rattle.table.specs.declared.Refusal.TheVariants.{Overrun, Full, Present, Absent}
 use Rattle.rosters.specs.Enrolled.{Roll, keys_of, roll_of}
 use Rattle.rosters.specs.declared.epochs.Row.{Row}
-use Rattle.rosters.specs.declared.epochs.Stamp.{Stamp}
 use Rattle.rosters.specs.declared.epochs.Table.{Table}
 use Rattle.rosters.specs.declared.fault.Fault.{Fault}
 use Rattle.rosters.specs.declared.fault.Fault.TheVariants.{TooManyEpochs, EpochTwice}
 use Rattle.rosters.specs.declared.members.Members.{Members}
 use Rattle.std.specs.Ordering.{nat_cmp}
 
-abbrev pub by_number : Stamp → Stamp → Ordering
+abbrev pub by_number : Epoch → Epoch → Ordering
 by_number a b = nat_cmp a.0 b.0
 
-abbrev pub stamp_of : Row → Stamp
-stamp_of r = r.stamp
+abbrev pub epoch_of : Row → Epoch
+epoch_of r = r.epoch
 
 abbrev pub rows_of : Table → List Row
 rows_of t = take t.count t.rows
 
-abbrev pub stamp : ℕ → Stamp
-stamp e = record { 0 = e }
+abbrev pub numbered : ℕ → Epoch
+numbered e = record { 0 = e }
 
 -- the row of an epoch
 abbrev pub row : ℕ → List Row → Option Row
-row e rs = look by_number stamp_of (stamp e) rs
+row e rs = look by_number epoch_of (numbered e) rs
 
 -- what a row tells: nothing while its epoch is unknown
 abbrev pub keys_told : Option Row → Option (List (List ℕ))
@@ -49,18 +49,18 @@ filed (Err Full) = Err TooManyEpochs
 filed (Err Absent) = Err TooManyEpochs
 
 abbrev pub with_known : Bool → Row → Row
-with_known known r = record { stamp = r.stamp; known = known; members = r.members }
+with_known known r = record { epoch = r.epoch; known = known; members = r.members }
 
 -- the rows with that of the epoch e known or not
 abbrev pub switched : ℕ → Bool → List Row → List Row
-switched e known rs = changed by_number stamp_of (with_known known) (stamp e) rs
+switched e known rs = changed by_number epoch_of (with_known known) (numbered e) rs
 
 -- what stays: every epoch's keys and own index, whether it is known or not
 abbrev pub filed_under : ℕ → List Row → Option Roll
 filed_under e rs = option_map (λ r. roll_of r.members) (row e rs)
 
 abbrev pub new_row : ℕ → Members → Row
-new_row e m = record { stamp = stamp e; known = true; members = m }
+new_row e m = record { epoch = numbered e; known = true; members = m }
 
 pub record Laws : Type 0 where
   -- a switch changes no keys, and tells or hides those of its epoch only
@@ -68,5 +68,5 @@ pub record Laws : Type 0 where
   pub switch_own : (e : ℕ) (known : Bool) (rs : List Row) → row e (switched e known rs) ≡ option_map (with_known known) (row e rs)
   pub switch_others : (e j : ℕ) (known : Bool) (rs : List Row) → (e ≢ j) → row j (switched e known rs) ≡ row j rs
   -- a new epoch is filed under its number, and the others stay
-  pub add_own : (e : ℕ) (m : Members) (rs : List Row) → row e rs ≡ None → row e (put by_number stamp_of (new_row e m) rs) ≡ Some (new_row e m)
-  pub add_others : (e j : ℕ) (m : Members) (rs : List Row) → (e ≢ j) → row j (put by_number stamp_of (new_row e m) rs) ≡ row j rs
+  pub add_own : (e : ℕ) (m : Members) (rs : List Row) → row e rs ≡ None → row e (put by_number epoch_of (new_row e m) rs) ≡ Some (new_row e m)
+  pub add_others : (e j : ℕ) (m : Members) (rs : List Row) → (e ≢ j) → row j (put by_number epoch_of (new_row e m) rs) ≡ row j rs

@@ -1,5 +1,5 @@
 -- What a roster of keys has to be, and where a key stands in it. A key counts as its bytes.
-use Rattle.std.specs.Prelude.{ℕ, suc, Bool, true, cond, ◌&&◌, List, [], ◌∷◌, map, length, take, Some, None, Option, nat_le, nat_lt}
+use Rattle.std.specs.Prelude.{ℕ, suc, ◌≤◌, Bool, true, cond, ◌&&◌, List, [], ◌∷◌, map, length, take, Some, None, Option, nat_le, nat_lt}
 use Rattle.std.specs.Option.{option_map}
 use Rattle.std.specs.Ordering.{is_eq, is_lt}
 use Rattle.register.specs.Order.{order}
@@ -10,6 +10,10 @@ bytes_of k = k.bytes
 
 abbrev pub all_bytes : List Key → List (List ℕ)
 all_bytes ks = map bytes_of ks
+
+-- as many keys as a roster has room for
+abbrev pub Few : List Key → Type 0
+Few ks = length ks ≤ 64
 
 -- each key is above the one before it; `rises k ks` says it of k and those after it
 abbrev pub rises : List ℕ → List (List ℕ) → Bool

@@ -4,13 +4,13 @@ use Rattle.std.specs.declared.cmp.Ordering.TheVariants.{Equal}
 use Rattle.std.proofs.Common.{⊎_elim, sym, ap, ◌∙◌, arith}
 use Rattle.std.proofs.lemmas.Bool.{cases_eq}
 use Rattle.std.proofs.lemmas.Bool.Decides.{nat_tests}
-use Rattle.std.specs.Cmp.{nat_cmp_total}
+use Rattle.std.specs.Cmp.{IsTotalOrder, nat_cmp_total, on_total}
 use Rattle.std.specs.Option.{option_map}
+use Rattle.register.specs.declared.counters.Epoch.{Epoch}
 use Rattle.table.specs.Laws as table
 use Rattle.table.proofs.Lawful.{table_laws}
-use Rattle.table.proofs.Orders.{Lawful}
 use Rattle.rosters.specs.Enrolled.{keys_of, roll_of}
-use Rattle.rosters.specs.Epochs.{Laws, by_number, filed_under, keys_told, new_row, own_told, row, stamp, stamp_of, switched, with_known}
+use Rattle.rosters.specs.Epochs.{Laws, by_number, filed_under, keys_told, new_row, own_told, row, numbered, epoch_of, switched, with_known}
 use Rattle.rosters.specs.Roster.{Fair}
 use Rattle.rosters.specs.declared.epochs.Row.{Row}
 use Rattle.rosters.specs.Soundness.{members_fair}
@@ -28,15 +28,11 @@ told_fair (Some r) = told_by r r.known
 pub told_is_some : (o : Option Row) (r : Row) → o ≡ Some r → true ≡ is_some o
 told_is_some o r h = ap is_some (sym h)
 
-numbers : Lawful by_number
-numbers = record {
-  reverses = λ a b. nat_cmp_total.antisymm b.0 a.0;
-  ascends = λ a b c. nat_cmp_total.trans a.0 b.0 c.0;
-  ties = λ a b c. nat_cmp_total.congr a.0 b.0 c.0;
-}
+numbers : IsTotalOrder by_number
+numbers = on_total (λ (e : Epoch). e.0) nat_cmp_total
 
-rows : table.Laws by_number stamp_of
-rows = table_laws by_number stamp_of numbers
+rows : table.Laws by_number epoch_of
+rows = table_laws by_number epoch_of numbers
 
 same_number : (a b : ℕ) → nat_cmp a b ≡ Equal → a ≡ b
 same_number a b h = grind (arith, nat_tests)
@@ -46,11 +42,11 @@ same_roll known None = refl
 same_roll known (Some r) = refl
 
 switch_own : (e : ℕ) (known : Bool) (rs : List Row) → row e (switched e known rs) ≡ option_map (with_known known) (row e rs)
-switch_own e known rs = rows.changed_found (with_known known) (stamp e) rs (λ r. refl)
+switch_own e known rs = rows.changed_found (with_known known) (numbered e) rs (λ r. refl)
 
 switch_others : (e j : ℕ) (known : Bool) (rs : List Row) → (e ≢ j) → row j (switched e known rs) ≡ row j rs
 switch_others e j known rs differ =
-    rows.changed_others (with_known known) (stamp e) (stamp j) rs (λ r. refl) (λ h. differ (same_number e j h))
+    rows.changed_others (with_known known) (numbered e) (numbered j) rs (λ r. refl) (λ h. differ (same_number e j h))
 
 switch_files : (e j : ℕ) (known : Bool) (rs : List Row) → filed_under j (switched e known rs) ≡ filed_under j rs
 switch_files e j known rs =
@@ -66,5 +62,5 @@ epoch_laws = record {
   switch_own = switch_own;
   switch_others = switch_others;
   add_own = λ e m rs none. rows.put_found (new_row e m) rs none;
-  add_others = λ e j m rs differ. rows.put_others (new_row e m) (stamp j) rs (λ h. differ (same_number e j h));
+  add_others = λ e j m rs differ. rows.put_others (new_row e m) (numbered j) rs (λ h. differ (same_number e j h));
 }

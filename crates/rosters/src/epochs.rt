@@ -2,8 +2,7 @@
 ghost use Rattle.std.specs.Prelude.{◌≡◌, ◌+◌, [], length, is_some, is_ok, if◌then◌else◌, MatchBool, MatchResult};
 ghost use Rattle.table.specs.Answers.{inserts};
 ghost use Rattle.table.specs.Table.{found, put};
-ghost use Rattle.rosters.specs.Epochs.{by_number, filed, keys_told, Laws, new_row, own_told, row, rows_of, stamp, stamp_of, switched};
-ghost use Rattle.std.proofs.Common.{rules};
+ghost use Rattle.rosters.specs.Epochs.{by_number, epoch_of, filed, keys_told, Laws, new_row, own_told, row, rows_of, switched};
 ghost use Rattle.rosters.specs.Switched.{told_fair};
 
 use crate::fault::Fault;
@@ -11,44 +10,26 @@ use crate::members::Members;
 use crate::roster::Roster;
 use register::counters::Epoch;
 use register::key::Key;
-use std::cmp::Ordering;
-use table::{Entry, Ordered, Refusal};
-
-// An epoch's number, by which rows are ordered.
-#[derive(Clone, Copy)]
-pub struct Stamp(u64);
-
-impl Ordered for Stamp {
-    ghost order = { by_number };
-
-    ghost reverses = { Prim.search rules };
-
-    ghost ascends = { Prim.search rules };
-
-    ghost ties = { Prim.search rules };
-
-    fn compare(&self, other: &Stamp) -> Ordering {
-        self.0.cmp(&other.0)
-    }
-}
+use table::{Entry, Refusal};
 
 #[derive(Clone, Copy)]
 pub struct Row {
-    stamp: Stamp,
+    epoch: Epoch,
     known: bool,
     members: Members,
 }
 
 impl Entry for Row {
-    type Key = Stamp;
+    type Key = Epoch;
 
-    ghost named = { stamp_of };
+    ghost named = { epoch_of };
 
-    fn key(&self) -> &Stamp {
-        &self.stamp
+    fn key(&self) -> &Epoch {
+        &self.epoch
     }
 }
 
+// The rows are an array and a count, since there is no heap.
 #[derive(Clone, Copy)]
 pub struct Table {
     rows: [Row; 16],
@@ -65,7 +46,7 @@ impl Table {
             unreachable()
         };
         let row = Row {
-            stamp: Stamp(0),
+            epoch: Epoch(0),
             known: false,
             members,
         };
@@ -77,32 +58,30 @@ impl Table {
 
     // The epoch is known from now on.
     pub fn add(&mut self, epoch: Epoch, members: Members) -> Result<(), Fault>
-        ensures answer { result ≡ filed (inserts self.old.count (length self.old.rows) (found by_number stamp_of (stamp epoch.0) (rows_of self.old))) }
-        ensures rows { MatchResult result (λ _. rows_of self.new ≡ put by_number stamp_of (new_row epoch.0 members) (rows_of self.old)) (λ _. self.new ≡ self.old) }
+        ensures answer { result ≡ filed (inserts self.old.count (length self.old.rows) (found by_number epoch_of epoch (rows_of self.old))) }
+        ensures rows { MatchResult result (λ _. rows_of self.new ≡ put by_number epoch_of (new_row epoch.0 members) (rows_of self.old)) (λ _. self.new ≡ self.old) }
         ensures count { self.new.count ≡ (if is_ok result then self.old.count + 1 else self.old.count) }
     {
         let row = Row {
-            stamp: Stamp(epoch.0),
+            epoch,
             known: true,
             members,
         };
-        match table::insert(&mut self.rows, self.count, row) {
-            Ok(_) => {
-                self.count += 1;
-                Ok(())
-            }
-            Err(Refusal::Present) => Err(Fault::EpochTwice),
-            Err(_) => Err(Fault::TooManyEpochs),
-        }
+        table::insert(&mut self.rows, self.count, row).map_err(|refusal| match refusal {
+            Refusal::Present => Fault::EpochTwice,
+            _ => Fault::TooManyEpochs,
+        })?;
+        self.count += 1;
+        Ok(())
     }
 
-    // Whether the epoch is filed; where it is not, nothing changes.
+    // Whether the epoch is filed; where it is not, nothing changes. A bool, as a set's `remove` answers, since nothing fails.
     pub fn set_known(&mut self, epoch: Epoch, known: bool) -> bool
         ensures answer { result ≡ is_some (row epoch.0 (rows_of self.old)) }
         ensures rows { MatchBool result (rows_of self.new ≡ switched epoch.0 known (rows_of self.old)) (self.new ≡ self.old) }
         ensures count { self.new.count ≡ self.old.count }
     {
-        match table::find(&self.rows, self.count, &Stamp(epoch.0)) {
+        match table::find(&self.rows, self.count, &epoch) {
             Ok(place) => {
                 self.rows[place].known = known;
                 true
@@ -120,23 +99,19 @@ impl Roster for Table {
     ghost fair = { λ t e. told_fair (row e (rows_of t)) };
 
     fn members(&self, epoch: Epoch) -> Option<&[Key]> {
-        match table::get(&self.rows, self.count, &Stamp(epoch.0)) {
-            Some(row) if row.known => Some(row.members.keys()),
-            _ => None,
-        }
+        table::get(&self.rows, self.count, &epoch)
+            .filter(|row| row.known)
+            .map(|row| row.members.keys())
     }
 
     fn own_index(&self, epoch: Epoch) -> Option<u16> {
-        match table::get(&self.rows, self.count, &Stamp(epoch.0)) {
-            Some(row) if row.known => row.members.own(),
-            _ => None,
-        }
+        table::get(&self.rows, self.count, &epoch)
+            .filter(|row| row.known)
+            .and_then(|row| row.members.own())
     }
 }
 
 // What a switch and a new epoch change, and what they leave.
-pub fn epochs_stand() -> u8
+pub fn epochs_stand()
     ensures { Laws }
-{
-    0
-}
+{}

@@ -2,7 +2,7 @@
 ghost use Rattle.std.specs.Prelude.{◌≡◌, ℕ, List, is_some, Option};
 ghost use Rattle.rosters.specs.Roster.{Fair, index_in, lent};
 
-use crate::members::parts::place;
+use crate::members::place;
 use register::counters::Epoch;
 use register::key::Key;
 
@@ -28,10 +28,8 @@ pub trait Roster {
     fn index_of(&self, epoch: Epoch, key: &Key) -> Option<u16>
         ensures { result ≡ index_in key.now.bytes (keys self.now epoch.0) }
     {
-        match self.members(epoch) {
-            Some(members) => place(members, key),
-            None => None,
-        }
+        let members = self.members(epoch)?;
+        place(members, key)
     }
 
     ghost fair: { (s : Self) (e : ℕ) → Fair (keys s e) (own s e) };

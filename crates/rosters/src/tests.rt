@@ -12,7 +12,7 @@ fn key(first: u8, last: u8) -> Option<Key> {
     let mut bytes = [0; 32];
     bytes[0] = first;
     bytes[31] = last;
-    Key::from_bytes(&bytes)
+    Key::try_from(&bytes[..]).ok()
 }
 
 #[test]

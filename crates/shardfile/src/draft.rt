@@ -104,7 +104,7 @@ impl Draft {
         words: &mut SplitWhitespace<'_>,
     ) -> Result<(), Complaint> {
         let bytes = hex_words(heap, words)?;
-        match Commitment::from_bytes(&bytes) {
+        match Commitment::try_from(bytes.as_slice()) {
             Ok(commitment) => settle(&mut self.commitment, Some(commitment)),
             Err(malformed) => Err(Complaint::Commitment(malformed)),
         }

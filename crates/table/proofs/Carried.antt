@@ -7,6 +7,10 @@ use Rattle.table.proofs.Orders.{by_order}
 use Rattle.table.specs.Laws.{look}
 use Rattle.table.specs.Table.{changed, found, later, put, without}
 
+pub all_weaker : {E : Type 0} (P Q : E → Type 0) → ((x : E) → P x → Q x) → (xs : List E) → AllByRecursion P xs → AllByRecursion Q xs
+all_weaker P Q f [] all = tt
+all_weaker P Q f (x ∷ xs) all = (f x all.0, all_weaker P Q f xs all.1)
+
 module _ {K E : Type 0} (order : K → K → Ordering) (key : E → K) where
   pub all_put : (P : E → Type 0) (e : E) (xs : List E) → P e → AllByRecursion P xs → AllByRecursion P (put order key e xs)
   all_put P e [] h all = (h, tt)

@@ -1,43 +1,43 @@
 -- The laws of a table.
 use Rattle.std.proofs.Common.{◌≡◌, ℕ, zero, suc, ◌<◌, List, [], ◌∷◌, length, get_or, Some, None, Ordering, Less, Equal, sym, refl, ap, ◌∙◌, le_of_suc-le-suc, not-suc-le-zero}
-use Rattle.std.proofs.ByRecursion.{All-from_get_or, All-get_or, All-weaker}
+use Rattle.std.proofs.lemmas.List.Elements.{All-from_recursion, recursion_from_All}
+use Rattle.std.specs.Cmp.{IsTotalOrder, tied_itself}
 use Rattle.std.specs.Option.{option_map}
 use Rattle.std.specs.List.{AllByRecursion}
 use Rattle.table.specs.Laws.{Ascends, look, Differ, Laws, FoundExactly}
 use Rattle.table.specs.Table.{pick, put, without, changed}
-use Rattle.table.proofs.Carried.{all_changed, all_put, all_without, look_equal}
-use Rattle.table.proofs.Orders.{by_order, Lawful, itself, above, below}
+use Rattle.table.proofs.Carried.{all_changed, all_put, all_weaker, all_without, look_equal}
+use Rattle.table.proofs.Orders.{by_order, above, below}
 use Rattle.table.proofs.Search.{changed_found, found_looks}
 
-module _ {K E : Type 0} (order : K → K → Ordering) (key : E → K) (laws : Lawful order) where
+module _ {K E : Type 0} (order : K → K → Ordering) (key : E → K) (laws : IsTotalOrder order) where
   all_found : (xs : List E) (i : ℕ) (d : E) → Ascends order key xs → i < length xs → look order key (key (get_or xs i d)) xs ≡ Some (get_or xs i d)
   all_found [] i d up h = absurd (not-suc-le-zero h)
-  all_found (x ∷ xs) zero d up h = rw (itself order laws (key x))
+  all_found (x ∷ xs) zero d up h = rw (tied_itself laws (key x))
   all_found (x ∷ xs) (suc i) d up h =
-      let less = All-get_or (λ y. order (key x) (key y) ≡ Less) xs i d (le_of_suc-le-suc h) up.0 in
+      let less = All-from_recursion (λ y. order (key x) (key y) ≡ Less) xs up.0 i d (le_of_suc-le-suc h) in
       rw less (all_found xs i d up.1 (le_of_suc-le-suc h))
 
   -- each entry of an ascending list is found under its key
   pub all_looks : (xs : List E) → Ascends order key xs → AllByRecursion (λ y. look order key (key y) xs ≡ Some y) xs
-  all_looks [] up = tt
-  all_looks (x ∷ xs) up = All-from_get_or (λ y. look order key (key y) (x ∷ xs) ≡ Some y) (x ∷ xs) x (λ i h. all_found (x ∷ xs) i x up h)
+  all_looks xs up = recursion_from_All (λ y. look order key (key y) xs ≡ Some y) xs (λ i d h. all_found xs i d up h)
 
   once : (xs : List E) (i j : ℕ) (d : E) → Ascends order key xs → i < length xs → j < length xs → order (key (get_or xs i d)) (key (get_or xs j d)) ≡ Equal → i ≡ j
   once [] i j d up hi hj e = absurd (not-suc-le-zero hi)
   once (x ∷ xs) zero zero d up hi hj e = refl
   once (x ∷ xs) zero (suc j) d up hi hj e =
-      let less = All-get_or (λ y. order (key x) (key y) ≡ Less) xs j d (le_of_suc-le-suc hj) up.0 in cc
+      let less = All-from_recursion (λ y. order (key x) (key y) ≡ Less) xs up.0 j d (le_of_suc-le-suc hj) in cc
   once (x ∷ xs) (suc i) zero d up hi hj e =
-      let more = above order laws _ _ (All-get_or (λ y. order (key x) (key y) ≡ Less) xs i d (le_of_suc-le-suc hi) up.0) in cc
+      let more = above order laws _ _ (All-from_recursion (λ y. order (key x) (key y) ≡ Less) xs up.0 i d (le_of_suc-le-suc hi)) in cc
   once (x ∷ xs) (suc i) (suc j) d up hi hj e = ap suc (once xs i j d up.1 (le_of_suc-le-suc hi) (le_of_suc-le-suc hj) e)
 
   put_found : (e : E) (xs : List E) → look order key (key e) xs ≡ None → look order key (key e) (put order key e xs) ≡ Some e
-  put_found e [] h = rw (itself order laws (key e))
+  put_found e [] h = rw (tied_itself laws (key e))
   put_found e (x ∷ xs) h =
       by_order (order (key x) (key e))
       (λ l. simp l (put_found e xs (simp l at h)))
       (λ q. let n = simp q at h in cc)
-      (λ m. simp (m, itself order laws (key e)))
+      (λ m. simp (m, tied_itself laws (key e)))
 
   -- nothing is found below the first key
   none_below : (k : K) (xs : List E) → AllByRecursion (λ y. order k (key y) ≡ Less) xs → look order key k xs ≡ None
@@ -46,7 +46,7 @@ module _ {K E : Type 0} (order : K → K → Ordering) (key : E → K) (laws : L
 
   -- what is below x is below all that x is below
   all_below : (k : K) (x : E) (xs : List E) → order k (key x) ≡ Less → AllByRecursion (λ y. order (key x) (key y) ≡ Less) xs → AllByRecursion (λ y. order k (key y) ≡ Less) xs
-  all_below k x xs h all = All-weaker _ (λ y. order k (key y) ≡ Less) (λ y l. laws.ascends k (key x) (key y) h l) xs all
+  all_below k x xs h all = all_weaker _ (λ y. order k (key y) ≡ Less) (λ y l. laws.trans k (key x) (key y) h l) xs all
 
   put_others : (e : E) (k : K) (xs : List E) → Differ order key (key e) k → look order key k (put order key e xs) ≡ look order key k xs
   put_others e k [] differ =
@@ -60,7 +60,7 @@ module _ {K E : Type 0} (order : K → K → Ordering) (key : E → K) (laws : L
       (λ l. simp l)
       (λ q. absurd (differ q))
       (λ m'.
-      let k-x = laws.ascends k (key e) (key x) (below order laws (key e) k m') (below order laws (key x) (key e) m) in
+      let k-x = laws.trans k (key e) (key x) (below order laws (key e) k m') (below order laws (key x) (key e) m) in
       simp (m', above order laws k (key x) k-x))))
 
   put_ascends : (e : E) (xs : List E) → Ascends order key xs → Ascends order key (put order key e xs)
@@ -78,7 +78,7 @@ module _ {K E : Type 0} (order : K → K → Ordering) (key : E → K) (laws : L
   without_gone k (x ∷ xs) up =
       by_order (order (key x) k)
       (λ l. simp l (without_gone k xs up.1))
-      (λ q. simp q (none_below k xs (All-weaker _ (λ y. order k (key y) ≡ Less) (λ y l. sym (laws.ties (key x) k (key y) q) ∙ l) xs up.0)))
+      (λ q. simp q (none_below k xs (all_weaker _ (λ y. order k (key y) ≡ Less) (λ y l. sym (laws.congr (key x) k (key y) q) ∙ l) xs up.0)))
       (λ m. simp m)
 
   without_others : (k j : K) (xs : List E) → Ascends order key xs → Differ order key k j → look order key j (without order key k xs) ≡ look order key j xs
@@ -89,7 +89,7 @@ module _ {K E : Type 0} (order : K → K → Ordering) (key : E → K) (laws : L
       (λ q. simp q
       (by_order (order (key x) j)
       (λ l. simp l)
-      (λ q'. absurd (differ (sym (laws.ties (key x) k j q) ∙ q')))
+      (λ q'. absurd (differ (sym (laws.congr (key x) k j q) ∙ q')))
       (λ m. simp m (none_below j xs (all_below j x xs (below order laws (key x) j m) up.0)))))
       (λ m. simp m)
 
@@ -116,7 +116,7 @@ module _ {K E : Type 0} (order : K → K → Ordering) (key : E → K) (laws : L
         (λ q. simp (q, keeps x q)
         (by_order (order (key x) j)
         (λ l. simp l)
-        (λ q'. absurd (differ (sym (laws.ties (key x) k j q) ∙ q')))
+        (λ q'. absurd (differ (sym (laws.congr (key x) k j q) ∙ q')))
         (λ m. simp m)))
         (λ m. simp m)
 

@@ -1,8 +1,8 @@
 -- How what is found tells where an entry is put, and which is taken out.
 use Rattle.std.proofs.Common.{◌≡◌, ℕ, ◌<◌, List, [], ◌∷◌, get_or, take, set, Some, None, Ok, Err, Option, Result, Ordering, Less, Equal, Greater, sym, refl, ap, ◌∙◌, subst, get_or-take, MatchResult}
-use lib.Seq.{take-set-lt}
+use Rattle.std.proofs.Math.Seq.{take-set-lt}
 use Rattle.std.specs.List.{insert, remove}
-use Rattle.table.specs.Laws.{look}
+use Rattle.table.specs.Laws.{Tells, look}
 use Rattle.table.specs.Table.{pick, later, found, put, without, changed}
 
 module _ {E : Type 0} (x : E) (xs ys : List E) where
@@ -51,16 +51,15 @@ module _ {K E : Type 0} (order : K → K → Ordering) (key : E → K) where
       let P : Result ℕ ℕ → Type 0 = λ r. MatchResult r (λ j. without order key k xs ≡ remove xs j) (λ _. without order key k xs ≡ xs) in
       subst P (sym is) (without-found k xs)
 
-  pub found_looks : (k : K) (xs : List E) → MatchResult (found order key k xs) (λ i. (d : E) → look order key k xs ≡ Some (get_or xs i d)) (λ _. look order key k xs ≡ None)
+  pub found_looks : (k : K) (xs : List E) → Tells order key k xs (found order key k xs)
   found_looks k [] = refl
   found_looks k (x ∷ xs) =
       looks_step x xs xs (order (key x) k) (found order key k xs) (look order key k xs) (found_looks k xs)
 
   -- the same, at what was found
-  pub looks_at : (k : K) (xs : List E) (r : Result ℕ ℕ) → r ≡ found order key k xs → MatchResult r (λ i. (d : E) → look order key k xs ≡ Some (get_or xs i d)) (λ _. look order key k xs ≡ None)
+  pub looks_at : (k : K) (xs : List E) (r : Result ℕ ℕ) → r ≡ found order key k xs → Tells order key k xs r
   looks_at k xs r is =
-      let P : Result ℕ ℕ → Type 0 = λ z. MatchResult z (λ i. (d : E) → look order key k xs ≡ Some (get_or xs i d)) (λ _. look order key k xs ≡ None) in
-      subst P (sym is) (found_looks k xs)
+      subst (Tells order key k xs) (sym is) (found_looks k xs)
 
   pub changed_found : (f : E → E) (k : K) (xs : List E) → MatchResult (found order key k xs) (λ i. (d : E) → changed order key f k xs ≡ set xs i (f (get_or xs i d))) (λ _. changed order key f k xs ≡ xs)
   changed_found f k [] = refl

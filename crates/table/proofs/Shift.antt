@@ -1,8 +1,7 @@
 -- What a turn by one place leaves of a slice: an entry more among the first n, or an entry fewer.
 use Rattle.std.proofs.Common.{◌≡◌, ℕ, ◌+◌, ◌-◌, ◌<◌, ◌≤◌, List, [], ◌∷◌, ◌++◌, length, get_or, take, drop, set, sym, refl, ap, ◌∙◌, not-suc-le-zero, add-one, arith, length-append, length-drop, length-set, length-take-le, take-take, take_at, drop-set-lt, drop_at}
 use borrow.Rule.Slice.PartMut.{put_mid}
-use lib.Seq.{take-set-le, drop-append-le}
-use Rattle.std.proofs.lemmas.List.{take_more_set, drop_more, append_assoc, get_or_at, get_or-take}
+use Rattle.std.proofs.lemmas.List.{take_more_set, drop_more, append_assoc, get_or_at, get_or-take, take-set-le, drop-append-le}
 use Rattle.std.proofs.lemmas.List.Edits.{length-remove}
 use Rattle.std.proofs.lemmas.Slice.{between_is, take-put_mid, drop-put_mid}
 use Rattle.std.specs.List.{between, insert, remove}

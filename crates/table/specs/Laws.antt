@@ -1,5 +1,5 @@
 -- What a table comes to, in the words of its users: what is found after each change, and that the keys ascend.
-use Rattle.std.specs.Prelude.{◌≡◌, ℕ, ◌<◌, List, [], ◌∷◌, length, Some, None, Option, MatchResult, slice_index_or, slice_set}
+use Rattle.std.specs.Prelude.{◌≡◌, ℕ, ◌<◌, List, [], ◌∷◌, length, Some, None, Option, Result, MatchResult, slice_index_or, slice_set}
 use Rattle.std.specs.declared.cmp.Ordering.TheVariants.{Less, Equal}
 use Rattle.std.specs.declared.cmp.Ordering.{Ordering}
 use Rattle.std.specs.Option.{option_map}
@@ -17,6 +17,10 @@ module _ {K E : Type 0} (order : K → K → Ordering) (key : E → K) where
   look k [] = None
   look k (x ∷ xs) = pick (order (key x) k) (look k xs) (Some x) None
 
+  -- what a search for k comes to: the place of its entry, or that there is none
+  abbrev pub Tells : K → List E → Result ℕ ℕ → Type 0
+  Tells k xs answer = MatchResult answer (λ i. (d : E) → look k xs ≡ Some (slice_index_or xs i d)) (λ _. look k xs ≡ None)
+
   abbrev pub Differ : K → K → Type 0
   Differ j k = order j k ≡ Equal → ⊥
 
@@ -25,7 +29,7 @@ module _ {K E : Type 0} (order : K → K → Ordering) (key : E → K) where
 
   pub record Laws : Type 0 where
     -- the place that is found is that of the entry
-    pub found_looks : (k : K) (xs : List E) → MatchResult (found order key k xs) (λ i. (d : E) → look k xs ≡ Some (slice_index_or xs i d)) (λ _. look k xs ≡ None)
+    pub found_looks : (k : K) (xs : List E) → Tells k xs (found order key k xs)
     -- what stands in a table is found, and stands there once
     pub all_found : (xs : List E) (i : ℕ) (d : E) → Ascends xs → i < length xs → look (key (slice_index_or xs i d)) xs ≡ Some (slice_index_or xs i d)
     pub once : (xs : List E) (i j : ℕ) (d : E) → Ascends xs → i < length xs → j < length xs → order (key (slice_index_or xs i d)) (key (slice_index_or xs j d)) ≡ Equal → i ≡ j

@@ -1,26 +1,11 @@
 // A table of four slots, whose keys are 16-bit numbers.
-ghost use Rattle.std.specs.Ordering.{nat_cmp};
 ghost use Rattle.std.proofs.Common.{rules};
 
 use super::*;
 use std::test::Fail;
 
-#[derive(Clone, Copy)]
+#[derive(Clone, Copy, PartialEq, Eq, PartialOrd, Ord)]
 struct Word(u16);
-
-impl Ordered for Word {
-    ghost order = { λ a b. nat_cmp a.0 b.0 };
-
-    ghost reverses = { Prim.search rules };
-
-    ghost ascends = { Prim.search rules };
-
-    ghost ties = { Prim.search rules };
-
-    fn compare(&self, other: &Word) -> Ordering {
-        self.0.cmp(&other.0)
-    }
-}
 
 impl Exact for Word {
     ghost same = { Prim.search rules };

@@ -1,4 +1,4 @@
-use Rattle.std.proofs.Common.{◌≡◌, ◌<◌, ◌≤◌, length, take, Err, sym, ◌∙◌, subst, arith, rules}
+use Rattle.std.proofs.Common.{◌≡◌, take, Err, sym, ◌∙◌, subst, arith, rules}
 use Rattle.table.specs.Laws.{Ascends}
 use Rattle.table.specs.Table.{found}
 use Rattle.table.proofs.Lawful.{table_laws}
@@ -6,25 +6,16 @@ use Rattle.table.proofs.Search.{put-at}
 use Rattle.table.proofs.Shift.{take_turned_in, drop_turned_in}
 use Rattle.table.proofs.insert.Goals as goal
 
-pub returns-in-Err-2 : goal.returns-in-Err-2
-returns-in-Err-2 g c =
-    let xs = c.args.entries.now in
-    let n = c.args.count in
-    let i = c.in-Err.field-0 in
-    let e = c.args.entry in
-    let order = g.E.Key.Ordered.order in
-    let named = g.E.Entry.named in
-    let le : i ≤ n = c.in-Err.ensures.within.0 in
-    let lt : n < length xs = omega arith in
-    let was = c.in-Err.ensures.answer in
-    let is : Err i ≡ found order named (named e) (take n xs) = cc in
-    let after = c.rotate_right.ensures.after in
-    let laws = table_laws order named (record { reverses = g.met.E.Key.Ordered.reverses; ascends = g.met.E.Key.Ordered.ascends; ties = g.met.E.Key.Ordered.ties }) in
-    let table = take_turned_in xs i n e le lt _ after ∙ sym (put-at order named e (take n xs) i is) in
-    record {
-      answer = search rules;
-      within = (le, lt);
-      table = table;
-      ascends = λ up. subst (Ascends order named) (sym table) (laws.put_ascends e (take n xs) up);
-      behind = drop_turned_in xs i n e le lt _ after;
-    }
+pub returns-in-Err-2-clause-table : goal.returns-in-Err-2-clause-table
+returns-in-Err-2-clause-table g c =
+    let is : Err c.in-Err.field-0 ≡ found g.E.Key.Ord.cmp g.E.Entry.named (g.E.Entry.named c.args.entry) (take c.args.count c.args.entries.now) = search rules in
+    take_turned_in c.args.entries.now c.in-Err.field-0 c.args.count c.args.entry c.in-Err.ensures.within.0 (omega arith) _ c.rotate_right.ensures.after ∙ sym (put-at g.E.Key.Ord.cmp g.E.Entry.named c.args.entry (take c.args.count c.args.entries.now) c.in-Err.field-0 is)
+
+pub returns-in-Err-2-clause-ascends : goal.returns-in-Err-2-clause-ascends
+returns-in-Err-2-clause-ascends g c = λ up.
+    let laws = table_laws g.E.Key.Ord.cmp g.E.Entry.named g.met.E.Key.Ord.total in
+    subst (Ascends g.E.Key.Ord.cmp g.E.Entry.named) (sym (returns-in-Err-2-clause-table g c)) (laws.put_ascends c.args.entry (take c.args.count c.args.entries.now) up)
+
+pub returns-in-Err-2-clause-behind : goal.returns-in-Err-2-clause-behind
+returns-in-Err-2-clause-behind g c =
+    drop_turned_in c.args.entries.now c.in-Err.field-0 c.args.count c.args.entry c.in-Err.ensures.within.0 (omega arith) _ c.rotate_right.ensures.after

@@ -2,8 +2,4 @@ use Rattle.table.proofs.Lawful.{found_exactly}
 use Rattle.table.proofs.keys_stand.Goals as goal
 
 pub returns : goal.returns
-returns g c =
-    let laws = g.met.E.Key.Ordered in
-    found_exactly g.E.Key.Ordered.order g.E.Entry.named
-    (record { reverses = laws.reverses; ascends = laws.ascends; ties = laws.ties })
-    g.met.E.Key.Exact.same
+returns g c = found_exactly g.E.Key.Ord.cmp g.E.Entry.named g.met.E.Key.Ord.total g.met.E.Key.Exact.same

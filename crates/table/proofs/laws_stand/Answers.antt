@@ -2,7 +2,4 @@ use Rattle.table.proofs.Lawful.{table_laws}
 use Rattle.table.proofs.laws_stand.Goals as goal
 
 pub returns : goal.returns
-returns g c =
-    let laws = g.met.E.Key.Ordered in
-    table_laws g.E.Key.Ordered.order g.E.Entry.named
-    (record { reverses = laws.reverses; ascends = laws.ascends; ties = laws.ties })
+returns g c = table_laws g.E.Key.Ord.cmp g.E.Entry.named g.met.E.Key.Ord.total

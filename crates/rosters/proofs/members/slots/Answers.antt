@@ -1,6 +1,6 @@
 use Rattle.std.proofs.Common.{rules}
 use Rattle.std.proofs.lemmas.Slice.{overwrites}
-use Rattle.rosters.proofs.members.parts.slots.Goals as goal
+use Rattle.rosters.proofs.members.slots.Goals as goal
 
 pub returns : goal.returns
 returns c = search (rules, overwrites)
