@@ -1,9 +1,8 @@
 -- A job that starts: the record's counts alone change, and mean what the model's job takes.
-use Rattle.std.proofs.Common.{◌≡◌, ℕ, ◌+◌, ◌-◌, ◌<◌, ◌≤◌, true, false, leb, List, [], map, length, take, drop, Some, Option, sym, refl, ap, ◌∙◌, arith, length-drop, drop_of_length-le, length-take, take-take, le-leb}
-use lib.ListN.{length-map}
+use Rattle.std.proofs.Common.{◌≡◌, ℕ, ◌+◌, ◌-◌, ◌<◌, ◌≤◌, Bool, true, false, leb, List, [], map, length, take, drop, Some, Option, sym, refl, ap, ◌∙◌, arith, length-drop, drop_of_length-le, length-take, take-take, le-leb}
 use borrow.Author.Tests.{lt-leb}
-use Rattle.record.proofs.Counting.{contributions_most}
-use Rattle.std.proofs.lemmas.List.{take-map, drop-map}
+use Rattle.std.proofs.lemmas.List.{take-map, drop-map, length-map}
+use Rattle.std.proofs.lemmas.List.Sums.{count_by-le-length}
 use Rattle.scheme.specs.Pieces.{Indexed}
 use Rattle.model.specs.Jobs.{tried_in, tried_with}
 use Rattle.model.specs.State.{Job, Phase, awaiting, Sent, Shards, with_phase}
@@ -40,10 +39,10 @@ module _ (at : Memory) (slot minimum width : ℕ) (r : Record) (s : Sound width 
   sent_none = (s.no_job idle).1
 
   checked_few : r.checked_count ≤ length r.checked
-  checked_few = omega (arith, s.used, s.flags, s.checked_room, contributions_most r.contributed)
+  checked_few = omega (arith, s.used, s.flags, s.checked_room, count_by-le-length (λ (b : Bool). b) r.contributed)
 
   pending_few : r.pending_count ≤ length r.pending
-  pending_few = omega (arith, s.used, s.flags, s.pending_room, contributions_most r.contributed)
+  pending_few = omega (arith, s.used, s.flags, s.pending_room, count_by-le-length (λ (b : Bool). b) r.contributed)
 
   pub starts : minimum ≤ r.checked_count + r.pending_count → shards_of at slot (started minimum r) ≡ tried_with minimum (job_of at slot r) (shards_of at slot r)
   starts h =

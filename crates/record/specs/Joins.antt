@@ -4,12 +4,16 @@ use Rattle.places.specs.Places.{held}
 use Rattle.record.specs.Sound.{Sound}
 use Rattle.record.specs.Views.{place_of}
 use Rattle.record.specs.declared.record.Record.{Record}
+use Rattle.record.specs.declared.slot.Slot.{Slot}
 
 -- the memory has the slot's places
-pub record Placed (width slot : ℕ) (shards : List ℕ) : Type 0 where
-  pub narrow : width ≤ 1024
-  pub low : slot ≤ 16
-  pub there : (slot * 64 + 64) * width ≤ length shards
+abbrev pub Placed : Slot → List ℕ → Type 0
+Placed slot shards = (slot.number * 64 + 64) * slot.width ≤ length shards
+
+-- the record can be read, with its shards in the slot's places
+pub record Housed (slot : Slot) (r : Record) (shards : List ℕ) : Type 0 where
+  pub sound : Sound slot.width r
+  pub placed : Placed slot shards
 
 -- the record can keep these bytes at an index that has not contributed
 pub record OpenTo (width : ℕ) (r : Record) (index : ℕ) (bytes : List ℕ) : Type 0 where
