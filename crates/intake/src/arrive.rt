@@ -82,16 +82,13 @@ pub fn settled(rec: &Record, home: Home<'_>, shards: &[u8], shard: Piece<'_>) ->
     ensures unused { IfNone result (slice_index_or rec.now.contributed shard.entry.index false ≡ false) }
 {
     if let Some(bytes) = received(rec, shards, home.slot, shard.index) {
-        return if bytes == shard.bytes {
-            Some(DROPPED)
+        return Some(if bytes == shard.bytes {
+            DROPPED
         } else {
-            Some(rejected(Reason::Equivocation))
-        };
+            rejected(Reason::Equivocation)
+        });
     }
-    if rec.contributed[shard.index as usize] {
-        return Some(DROPPED);
-    }
-    None
+    rec.contributed[shard.index as usize].then_some(DROPPED)
 }
 
 // Before the block: the sender's own shard waits for a job; none is checked.

@@ -13,7 +13,7 @@ use Rattle.model.specs.Intake as model
 use Rattle.model.specs.State.{awaiting, with_contribution}
 use Rattle.table.specs.Table.{put}
 use Rattle.record.specs.Fields.{by_index, by_sender, index_named, sender_named, with_checked, with_pending, with_received, with_verified}
-use Rattle.record.specs.Joins.{OpenTo}
+use Rattle.record.specs.Joins.{OpenTo, queued}
 use Rattle.record.specs.Sound.{Lies, Sound, contributions}
 use Rattle.record.specs.Views.{Memory, memory, phase_of, place_of, sent_in, shard_in, shards_of, view}
 use Rattle.record.specs.declared.record.Record.{Record}
@@ -148,7 +148,7 @@ module _ (width i : ℕ) (bytes : List ℕ) (r : Record) (o : OpenTo width r i b
               ∙ sent_put width slot i shards after size blobs r.contributed o.fresh others (record { sender = sender; shard = stored }) (drop r.job_pending (take r.pending_count r.pending)) (All-drop (λ p. Lies width r.contributed p.shard) r.job_pending (take r.pending_count r.pending) o.sound.pending_lie)
               ∙ ap (λ s. put order sender_of (record { sender = sender.bytes; shard = s }) (map (sent_in at slot) (drop r.job_pending (take r.pending_count r.pending)))) shard_is
 
-      pub waits-view : (c : List ℕ) → view new c slot after_wait ≡ with_contribution flags r.verified (awaiting (model.with_pending (record { sender = sender.bytes; shard = shard }) (shards_of at slot r))) (view at c slot r)
+      pub waits-view : (c : List ℕ) → view new c slot after_wait ≡ with_contribution flags r.verified (queued (record { sender = sender.bytes; shard = shard }) (phase_of at slot r)) (view at c slot r)
       waits-view c = ap (λ p. with_contribution flags r.verified p (view at c slot r)) (simp before (ap awaiting waits-shards))
 
       rest_lies : All (λ p. Lies width flags p.shard) (drop r.job_pending (take n P))

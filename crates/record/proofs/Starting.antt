@@ -7,7 +7,7 @@ use Rattle.scheme.specs.Pieces.{Indexed}
 use Rattle.model.specs.Jobs.{tried_in, tried_with}
 use Rattle.model.specs.State.{Job, Phase, awaiting, Sent, Shards, with_phase}
 use Rattle.record.specs.Sound.{Sound}
-use Rattle.record.specs.Started.{started}
+use Rattle.record.specs.Fields.{started}
 use Rattle.record.specs.Views.{Memory, job_of, phase_of, sent_in, shard_in, shards_of, view}
 use Rattle.record.specs.declared.record.Record.{Record}
 

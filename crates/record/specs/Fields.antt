@@ -1,5 +1,5 @@
--- A record with one of its lists changed, and what the lists are ordered by. Assumes nothing.
-use Rattle.std.specs.Prelude.{ℕ, Bool, true, List}
+-- A record with some of its fields changed, and what its lists are ordered by. Assumes nothing.
+use Rattle.std.specs.Prelude.{ℕ, ◌-◌, Bool, true, List}
 use Rattle.std.specs.declared.cmp.Ordering.{Ordering}
 use Rattle.std.specs.Ordering.{nat_cmp}
 use Rattle.register.specs.Order.{order}
@@ -41,3 +41,7 @@ under_leader leader r = record r { led = true; leader = leader }
 -- all but the round stays
 abbrev pub at_round : Round → Record → Record
 at_round round r = record r { round = round }
+
+-- a job has started: all checked are out, and pending ones up to the minimum
+abbrev pub started : ℕ → Record → Record
+started minimum r = record r { job_checked = r.checked_count; job_pending = minimum - r.checked_count; job = true }

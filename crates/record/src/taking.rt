@@ -1,10 +1,8 @@
 // A shard that a record takes in: one that waits for a job, and the assigned one, which has been checked.
-ghost use Rattle.std.specs.Prelude.{◌≡◌, ℕ, true, false, List, slice_set};
-ghost use Rattle.model.specs.Intake.{joined, with_pending};
-ghost use Rattle.model.specs.State.{awaiting, with_contribution};
-ghost use Rattle.record.specs.Joins.{Elsewhere, OpenTo, Placed};
+ghost use Rattle.std.specs.Prelude.{◌≡◌, true, false};
+ghost use Rattle.model.specs.Intake.{joined};
+ghost use Rattle.record.specs.Joins.{Elsewhere, OpenTo, Placed, TakesIn, queued};
 ghost use Rattle.record.specs.Sound.{SameJob, Sound};
-ghost use Rattle.record.specs.Views.{memory, phase_of, shards_of, view};
 ghost use Rattle.scheme.specs.Pieces.{indexed};
 
 use crate::record::Record;
@@ -18,7 +16,7 @@ impl Record {
         requires placed { Placed slot shards.old }
         requires fits { OpenTo slot.width self.old shard.index shard.bytes.now }
         requires before { self.old.cached ≡ false }
-        ensures waits { (size : ℕ) (blobs c : List ℕ) → view (memory slot.width shards.new size blobs) c slot.number self.new ≡ with_contribution (slice_set self.old.contributed shard.entry.index true) self.old.verified (awaiting (with_pending (record { sender = sender.entry.now.bytes; shard = indexed shard.entry }) (shards_of (memory slot.width shards.old size blobs) slot.number self.old))) (view (memory slot.width shards.old size blobs) c slot.number self.old) }
+        ensures waits { TakesIn slot self.old self.new shards.old shards.new (indexed shard.entry) self.old.verified (queued (record { sender = sender.entry.now.bytes; shard = indexed shard.entry })) }
         ensures sound { Sound slot.width self.new }
         ensures job { SameJob self.old self.new }
         ensures elsewhere { Elsewhere slot.width slot.number shards.old shards.new }
@@ -31,7 +29,7 @@ impl Record {
     pub fn verify(&mut self, shards: &mut [u8], slot: Slot, shard: Piece<'_>)
         requires placed { Placed slot shards.old }
         requires fits { OpenTo slot.width self.old shard.index shard.bytes.now }
-        ensures verifies { (size : ℕ) (blobs c : List ℕ) → view (memory slot.width shards.new size blobs) c slot.number self.new ≡ with_contribution (slice_set self.old.contributed shard.entry.index true) true (joined (indexed shard.entry) (phase_of (memory slot.width shards.old size blobs) slot.number self.old)) (view (memory slot.width shards.old size blobs) c slot.number self.old) }
+        ensures verifies { TakesIn slot self.old self.new shards.old shards.new (indexed shard.entry) true (joined (indexed shard.entry)) }
         ensures sound { Sound slot.width self.new }
         ensures job { SameJob self.old self.new }
         ensures elsewhere { Elsewhere slot.width slot.number shards.old shards.new }
