@@ -1,15 +1,23 @@
 -- What a step of intake does to the record of a home, as the model has it, wherever blobs lie. Assumes nothing.
-use Rattle.std.specs.Prelude.{◌≡◌, ℕ, Bool, List, Option}
+use Rattle.std.specs.Prelude.{◌≡◌, ℕ, ◌<◌, ◌≤◌, Bool, List, length, Option}
 use Rattle.scheme.specs.Pieces.{Indexed}
 use Rattle.model.specs.Intake as model
 use Rattle.model.specs.Intake.{received_at, unless_contributed, unless_received}
 use Rattle.model.specs.Meaning.{Meaning, good_for}
 use Rattle.model.specs.State.{Rec}
+use Rattle.record.specs.Joins.{Housed}
 use Rattle.record.specs.Views.{memory, shards_of, view}
 use Rattle.record.specs.declared.record.Record.{Record}
+use Rattle.record.specs.declared.slot.Slot.{Slot}
 use Rattle.intake.specs.Classes.{taken_as, unless_settled}
 use Rattle.intake.specs.declared.arrive.Home.{Home}
 use Rattle.intake.specs.declared.taken.Taken.{Taken}
+
+-- the record can be read, with its shards in the slot's places, and the shard has a place there
+pub record Fitting (slot : Slot) (r : Record) (shards : List ℕ) (x : Indexed) : Type 0 where
+  pub housed : Housed slot r shards
+  pub within : x.index < 64
+  pub fits : length x.bytes ≤ slot.width
 
 -- which shards are good for the home's commitment
 abbrev pub good_in : Meaning → Home → Indexed → Bool

@@ -1,7 +1,7 @@
 // A shard that arrives at its record, in the order of the rules.
 ghost use Rattle.std.specs.Prelude.{◌≡◌, ◌<◌, ◌≤◌, true, false, length, IfSome, IfNone, if◌then◌else◌, Some, None, slice_index_or};
 ghost use Rattle.intake.specs.Classes.{Kept};
-ghost use Rattle.intake.specs.Steps.{Follows, Settles, good_in};
+ghost use Rattle.intake.specs.Steps.{Fitting, Follows, Settles, good_in};
 ghost use Rattle.model.specs.Intake.{arrives, assigned as toAssigned, checks, dropped, from_member, owned as toOwned, unless_contributed};
 ghost use Rattle.record.specs.Joins.{Housed, OpenTo, Placed};
 ghost use Rattle.scheme.specs.Pieces.{indexed};
@@ -98,9 +98,7 @@ fn arrive_owned(
     shards: &mut [u8],
     arrival: Arrival<'_>,
 ) -> Taken
-    requires housed { Housed home.slot rec.old shards.old }
-    requires within { arrival.shard.index < 64 }
-    requires fits { length arrival.shard.bytes.now ≤ home.slot.width }
+    requires fits { Fitting home.slot rec.old shards.old (indexed arrival.shard) }
     requires before { rec.old.cached ≡ false }
     ensures takes { let s = indexed arrival.entry.shard in Follows home.entry rec.old rec.new shards.old shards.new result s (λ r. arrives (λ _. false) arrival.entry.own arrival.entry.sender.now.bytes s r r.phase toOwned) }
     ensures kept { Kept home.entry.slot rec.old rec.new shards.old shards.new }
@@ -120,9 +118,7 @@ fn arrive_assigned<N: Node>(
     shards: &mut [u8],
     arrival: Arrival<'_>,
 ) -> Taken
-    requires housed { Housed home.slot rec.old shards.old }
-    requires within { arrival.shard.index < 64 }
-    requires fits { length arrival.shard.bytes.now ≤ home.slot.width }
+    requires fits { Fitting home.slot rec.old shards.old (indexed arrival.shard) }
     requires before { rec.old.cached ≡ false }
     ensures takes { let s = indexed arrival.entry.shard in Follows home.entry rec.old rec.new shards.old shards.new result s (λ r. arrives (good_in (N.Node.meaning node.now) home.entry) arrival.entry.own arrival.entry.sender.now.bytes s r r.phase toAssigned) }
     ensures kept { Kept home.entry.slot rec.old rec.new shards.old shards.new }
@@ -144,9 +140,7 @@ fn arrive_late<N: Node>(
     shards: &mut [u8],
     arrival: Arrival<'_>,
 ) -> Taken
-    requires housed { Housed home.slot rec.old shards.old }
-    requires within { arrival.shard.index < 64 }
-    requires fits { length arrival.shard.bytes.now ≤ home.slot.width }
+    requires { Fitting home.slot rec.old shards.old (indexed arrival.shard) }
     ensures takes { let s = indexed arrival.entry.shard in Follows home.entry rec.old rec.new shards.old shards.new result s (λ r. unless_contributed s r (if r.verified then dropped r else checks (good_in (N.Node.meaning node.now) home.entry s) arrival.entry.own s r)) }
     ensures kept { Kept home.entry.slot rec.old rec.new shards.old shards.new }
 {

@@ -3,12 +3,9 @@ use Rattle.std.proofs.Common.{◌≡◌, ℕ, ◌+◌, ◌-◌, ◌≤◌, List,
 use borrow.Rule.Slice.PartMut.{post_of, put_mid}
 use Rattle.std.proofs.Math.Seq.{drop-append-add}
 use Rattle.std.proofs.lemmas.List.{drop-append-le, drop-drop, drop-take, take-append-drop, take-append-le}
-use Rattle.std.proofs.lemmas.Slice.{between_is, take-put_mid_below}
+use Rattle.std.proofs.lemmas.Slice.{between_is}
 
 module _ {X : Type 0} (a k : ℕ) (xs ys : List X) (inside : a ≤ length xs) where
-  pub front-stays : take a (put_mid a k xs ys) ≡ take a xs
-  front-stays = take-put_mid_below a k xs ys a (omega arith) inside
-
   pub behind_front : (r : ℕ) → r ≤ length ys → drop a (take (a + r) (put_mid a k xs ys)) ≡ take r ys
   behind_front r h =
       let front : length (take a xs) ≡ a = simp length-take (omega arith) in

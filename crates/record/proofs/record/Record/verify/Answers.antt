@@ -11,14 +11,12 @@ use Rattle.record.proofs.Joined.{checks-sound, checks-view, late_sound, late_vie
 use Rattle.record.proofs.Joining.{elsewhere}
 use Rattle.record.proofs.record.Record.verify.Goals as goal
 
-pub returns-then-self : goal.returns-then-self
-returns-then-self c =
-    record {
-      verifies = λ size blobs filed. late_view c.args.slot.width c.args.shard.index c.args.shard.bytes.now c.args.self.now c.requires.fits (memory c.args.slot.width c.args.shards.now size blobs) filed c.args.slot.number (indexed c.args.shard) c.if-self.true;
-      sound = late_sound c.args.slot.width c.args.shard.index c.args.shard.bytes.now c.args.self.now c.requires.fits;
-      job = record { out = refl; checked = refl; pending = refl };
-      elsewhere = λ other i n ne lt h. refl;
-    }
+pub returns-then-self-clause-verifies : goal.returns-then-self-clause-verifies
+returns-then-self-clause-verifies c size blobs filed =
+    late_view c.args.slot.width c.args.shard.index c.args.shard.bytes.now c.args.self.now c.requires.fits (memory c.args.slot.width c.args.shards.now size blobs) filed c.args.slot.number (indexed c.args.shard) c.if-self.true
+
+pub returns-then-self-clause-sound : goal.returns-then-self-clause-sound
+returns-then-self-clause-sound c = late_sound c.args.slot.width c.args.shard.index c.args.shard.bytes.now c.args.self.now c.requires.fits
 
 pub keep-stored-requires : goal.keep-stored-requires
 keep-stored-requires c =
