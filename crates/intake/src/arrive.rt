@@ -92,12 +92,7 @@ pub fn settled(rec: &Record, home: Home<'_>, shards: &[u8], shard: Piece<'_>) ->
 }
 
 // Before the block: the sender's own shard waits for a job; none is checked.
-fn arrive_owned(
-    rec: &mut Record,
-    home: Home<'_>,
-    shards: &mut [u8],
-    arrival: Arrival<'_>,
-) -> Taken
+fn arrive_owned(rec: &mut Record, home: Home<'_>, shards: &mut [u8], arrival: Arrival<'_>) -> Taken
     requires fits { Fitting home.slot rec.old shards.old (indexed arrival.shard) }
     requires before { rec.old.cached ≡ false }
     ensures takes { let s = indexed arrival.entry.shard in Follows home.entry rec.old rec.new shards.old shards.new result s (λ r. arrives (λ _. false) arrival.entry.own arrival.entry.sender.now.bytes s r r.phase toOwned) }

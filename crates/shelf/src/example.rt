@@ -3,5 +3,4 @@ ghost use Rattle.shelf.specs.Example.{ExampleIsWhole};
 
 pub fn example_is_whole()
     ensures { ExampleIsWhole }
-{
-}
+{}

@@ -1,4 +1,4 @@
-use Rattle.std.proofs.Common.{◌≡◌, ℕ, ◌+◌, ◌<◌, true, List, length, take, set, sym, refl, ap, ◌∙◌, subst}
+use Rattle.std.proofs.Common.{◌≡◌, ℕ, ◌+◌, ◌<◌, true, List, length, take, set, sym, ap, ◌∙◌, subst}
 use Rattle.scheme.specs.Pieces.{indexed}
 use Rattle.table.specs.Table.{put}
 use Rattle.record.specs.Fields.{by_index, index_named, with_checked, with_received, with_verified}
