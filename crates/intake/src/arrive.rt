@@ -1,8 +1,8 @@
 // A shard that arrives at its record, in the order of the rules.
 ghost use Rattle.std.specs.Prelude.{◌≡◌, ◌<◌, ◌≤◌, true, false, length, IfSome, IfNone, if◌then◌else◌, Some, None, slice_index_or};
 ghost use Rattle.intake.specs.Classes.{Kept};
-ghost use Rattle.intake.specs.Steps.{Fitting, Follows, Settles, good_in};
-ghost use Rattle.model.specs.Intake.{arrives, assigned as toAssigned, checks, dropped, from_member, owned as toOwned, unless_contributed};
+ghost use Rattle.intake.specs.Steps.{Fitting, Follows, Settles, arrives_as, arrives_from, checked, good_in, shard_of};
+ghost use Rattle.model.specs.Intake.{assigned as toAssigned, dropped, owned as toOwned, unless_contributed};
 ghost use Rattle.record.specs.Joins.{Housed, OpenTo, Placed};
 ghost use Rattle.scheme.specs.Pieces.{indexed};
 
@@ -59,7 +59,7 @@ pub fn check_assigned<N: Node>(
 ) -> Taken
     requires placed { Placed home.slot shards.old }
     requires fits { OpenTo home.slot.width rec.old arrival.shard.index arrival.shard.bytes.now }
-    ensures takes { let s = indexed arrival.entry.shard in Follows home.entry rec.old rec.new shards.old shards.new result s (checks (good_in (N.Node.meaning node.now) home.entry s) arrival.entry.own s) }
+    ensures takes { Follows home.entry arrival.entry rec.old rec.new shards.old shards.new result (checked (good_in (N.Node.meaning node.now) home.entry) arrival.entry) }
     ensures kept { Kept home.entry.slot rec.old rec.new shards.old shards.new }
 {
     if !node.check(home.commitment, home.limit, arrival.shard) {
@@ -91,11 +91,11 @@ pub fn settled(rec: &Record, home: Home<'_>, shards: &[u8], shard: Piece<'_>) ->
     rec.contributed[shard.index as usize].then_some(DROPPED)
 }
 
-// Before the block: the sender's own shard waits for a job; none is checked.
+// Before the block: the sender's own shard waits for a job, and is not checked: so which are good does not matter.
 fn arrive_owned(rec: &mut Record, home: Home<'_>, shards: &mut [u8], arrival: Arrival<'_>) -> Taken
     requires fits { Fitting home.slot rec.old shards.old (indexed arrival.shard) }
     requires before { rec.old.cached ≡ false }
-    ensures takes { let s = indexed arrival.entry.shard in Follows home.entry rec.old rec.new shards.old shards.new result s (λ r. arrives (λ _. false) arrival.entry.own arrival.entry.sender.now.bytes s r r.phase toOwned) }
+    ensures takes { Follows home.entry arrival.entry rec.old rec.new shards.old shards.new result (arrives_as (λ _. false) arrival.entry toOwned) }
     ensures kept { Kept home.entry.slot rec.old rec.new shards.old shards.new }
 {
     if let Some(taken) = settled(rec, home, shards, arrival.shard) {
@@ -115,7 +115,7 @@ fn arrive_assigned<N: Node>(
 ) -> Taken
     requires fits { Fitting home.slot rec.old shards.old (indexed arrival.shard) }
     requires before { rec.old.cached ≡ false }
-    ensures takes { let s = indexed arrival.entry.shard in Follows home.entry rec.old rec.new shards.old shards.new result s (λ r. arrives (good_in (N.Node.meaning node.now) home.entry) arrival.entry.own arrival.entry.sender.now.bytes s r r.phase toAssigned) }
+    ensures takes { Follows home.entry arrival.entry rec.old rec.new shards.old shards.new result (arrives_as (good_in (N.Node.meaning node.now) home.entry) arrival.entry toAssigned) }
     ensures kept { Kept home.entry.slot rec.old rec.new shards.old shards.new }
 {
     if rec.verified {
@@ -136,7 +136,7 @@ fn arrive_late<N: Node>(
     arrival: Arrival<'_>,
 ) -> Taken
     requires { Fitting home.slot rec.old shards.old (indexed arrival.shard) }
-    ensures takes { let s = indexed arrival.entry.shard in Follows home.entry rec.old rec.new shards.old shards.new result s (λ r. unless_contributed s r (if r.verified then dropped r else checks (good_in (N.Node.meaning node.now) home.entry s) arrival.entry.own s r)) }
+    ensures takes { Follows home.entry arrival.entry rec.old rec.new shards.old shards.new result (λ r. unless_contributed (shard_of arrival.entry) r (if r.verified then dropped r else checked (good_in (N.Node.meaning node.now) home.entry) arrival.entry r)) }
     ensures kept { Kept home.entry.slot rec.old rec.new shards.old shards.new }
 {
     if rec.contributed[arrival.shard.index as usize] || rec.verified {
@@ -158,7 +158,7 @@ pub fn intake<N: Node>(
     requires fits { length arrival.shard.bytes.now ≤ home.slot.width }
     requires member { IfSome place (λ i. i < 64) }
     requires own { IfSome arrival.own (λ i. i < 64) }
-    ensures takes { let s = indexed arrival.entry.shard in Follows home.entry rec.old rec.new shards.old shards.new result s (λ r. from_member (good_in (N.Node.meaning node.now) home.entry) arrival.entry.own arrival.entry.sender.now.bytes s r place) }
+    ensures takes { Follows home.entry arrival.entry rec.old rec.new shards.old shards.new result (arrives_from (good_in (N.Node.meaning node.now) home.entry) arrival.entry place) }
     ensures kept { Kept home.entry.slot rec.old rec.new shards.old shards.new }
 {
     let Some(place) = place else {
