@@ -15,7 +15,7 @@ pub fn received<'m>(rec: &Record, shards: &'m [u8], slot: Slot, index: u16) -> O
     requires { Housed slot rec.now shards.now }
     ensures { (size : ℕ) (blobs : List ℕ) → option_map (λ x. x.now) result ≡ option_map bytes_of (received_at index (shards_of (memory slot.width shards.now size blobs) slot.number rec.now)) }
 {
-    let stored = table::get(&rec.received, rec.received_count, &Index(index))?;
+    let stored = rec.received_at(Index(index))?;
     let place = slot.place(stored.index);
     Some(places::load(shards, slot.width, place, stored.len as usize))
 }

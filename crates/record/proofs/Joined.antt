@@ -125,7 +125,7 @@ module _ (width i : ℕ) (bytes : List ℕ) (r : Record) (o : OpenTo width r i b
 
     received_lies : (R : List Stored) (m : ℕ) → take m R ≡ put by_index index_named stored (take r.received_count r.received) → All (Lies width flags) (take m R)
     received_lies R m table =
-        subst (All (Lies width flags)) (sym table) (all_put by_index index_named (Lies width flags) stored (take r.received_count r.received) stored_lies (stored_lie (take r.received_count r.received) o.sound.received_lie))
+        rw table (all_put by_index index_named (Lies width flags) stored (take r.received_count r.received) stored_lies (stored_lie (take r.received_count r.received) o.sound.received_lie))
 
     -- one that waits
     module _ (sender : Key) (R : List Stored) (m : ℕ) (P : List Pending) (n : ℕ) (before : r.cached ≡ false)
@@ -152,13 +152,13 @@ module _ (width i : ℕ) (bytes : List ℕ) (r : Record) (o : OpenTo width r i b
       waits-view c = ap (λ p. with_contribution flags r.verified p (view at c slot r)) (simp before (ap awaiting waits-shards))
 
       rest_lies : All (λ p. Lies width flags p.shard) (drop r.job_pending (take n P))
-      rest_lies = subst (All (λ p. Lies width flags p.shard)) (sym waiting) (all_put by_sender sender_named (λ p. Lies width flags p.shard) (record { sender = sender; shard = stored }) (drop r.job_pending (take r.pending_count r.pending)) stored_lies (All-drop (λ p. Lies width flags p.shard) r.job_pending (take r.pending_count r.pending) sent_lie))
+      rest_lies = rw waiting (all_put by_sender sender_named (λ p. Lies width flags p.shard) (record { sender = sender; shard = stored }) (drop r.job_pending (take r.pending_count r.pending)) stored_lies (All-drop (λ p. Lies width flags p.shard) r.job_pending (take r.pending_count r.pending) sent_lie))
 
       front_lies : r.pending_count ≤ n → All (λ p. Lies width flags p.shard) (take r.job_pending (take n P))
       front_lies some =
           let same : take r.job_pending (take n P) ≡ take r.job_pending (take r.pending_count r.pending) =
           take-take r.job_pending n P (omega (arith, o.sound.job_pending)) ∙ out ∙ sym (take-take r.job_pending r.pending_count r.pending o.sound.job_pending) in
-          subst (All (λ p. Lies width flags p.shard)) (sym same) (All-take (λ p. Lies width flags p.shard) r.job_pending (take r.pending_count r.pending) sent_lie)
+          rw same (All-take (λ p. Lies width flags p.shard) r.job_pending (take r.pending_count r.pending) sent_lie)
 
       pub waits-sound : length R ≡ 64 → length P ≡ 64 → m ≤ r.received_count + 1 → r.pending_count ≤ n → n ≤ r.pending_count + 1 → Sound width after_wait
       waits-sound long wide few some most =
@@ -203,7 +203,7 @@ module _ (width i : ℕ) (bytes : List ℕ) (r : Record) (o : OpenTo width r i b
               ∙ ap (λ l. l ++ shard_in new slot stored ∷ []) (rest_alike (shard_in new slot) (shard_in at slot) r.checked_count r.checked checked_alike r.job_checked)
               ∙ ap (λ x. map (shard_in at slot) (drop r.job_checked (take r.checked_count r.checked)) ++ x ∷ []) shard_is
 
-      pub checks-view : (c : List ℕ) → view new c slot after_check ≡ with_contribution flags true (awaiting (model.with_received shard ((shards_of at slot r).checked ++ shard ∷ []) (shards_of at slot r))) (view at c slot r)
+      pub checks-view : (c : List ℕ) → view new c slot after_check ≡ with_contribution flags true (model.joined shard (phase_of at slot r)) (view at c slot r)
       checks-view c = ap (λ p. with_contribution flags true p (view at c slot r)) (simp before (ap awaiting checks-shards))
 
       pub checks-sound : length R ≡ 64 → m ≤ r.received_count + 1 → Sound width after_check
@@ -219,6 +219,6 @@ module _ (width i : ℕ) (bytes : List ℕ) (r : Record) (o : OpenTo width r i b
             job_pending = o.sound.job_pending;
             no_job = o.sound.no_job;
             received_lie = received_lies R m table;
-            checked_lie = subst (All (Lies width flags)) (sym checked_more) (All-push (Lies width flags) (take r.checked_count r.checked) stored (stored_lie (take r.checked_count r.checked) o.sound.checked_lie) stored_lies);
+            checked_lie = rw checked_more (All-push (Lies width flags) (take r.checked_count r.checked) stored (stored_lie (take r.checked_count r.checked) o.sound.checked_lie) stored_lies);
             pending_lie = sent_lie;
           }

@@ -1,15 +1,17 @@
 // The record itself: how it begins, its round and its leader. It lies in one slot of the engine and never moves; its
 // commitment is filed beside it.
-ghost use Rattle.std.specs.Prelude.{◌≡◌, ℕ, false, List, Some, None};
+ghost use Rattle.std.specs.Prelude.{◌≡◌, ℕ, false, List, take, Some, None};
 ghost use Rattle.model.specs.State.{larger, new_record, with_leader, with_round};
-ghost use Rattle.record.specs.Fields.{at_round, under_leader};
+ghost use Rattle.record.specs.Fields.{at_round, by_index, index_named, under_leader};
 ghost use Rattle.record.specs.Sound.{Rooms, Sound};
 ghost use Rattle.record.specs.Views.{Memory, leader_of, view};
 ghost use Rattle.std.specs.Option.{option_map};
+ghost use Rattle.table.specs.Laws.{look};
 
 use crate::stored::{Pending, Stored};
 use register::counters::Round;
 use register::key::Key;
+use register::ordered::Index;
 
 // The engine's state lies in memory that a C caller lends, and an exported C function can take no reference to a struct that
 // holds an enum (Option too) or a struct with parameters. So flags stand beside values here, and counts beside plain arrays.
@@ -76,6 +78,13 @@ impl Record {
         ensures { option_map (λ k. k.now.bytes) result ≡ leader_of self.now }
     {
         self.led.then_some(&self.leader)
+    }
+
+    // What was received at an index.
+    pub fn received_at(&self, index: Index) -> Option<&Stored>
+        ensures { option_map (λ s. s.now) result ≡ look by_index index_named index (take self.now.received_count self.now.received) }
+    {
+        table::get(&self.received, self.received_count, &index)
     }
 
     pub fn set_leader(&mut self, leader: Key)

@@ -74,8 +74,8 @@ module _ (s : Shelf) (w : Whole s) (place : ℕ) (within : place < s.count) wher
           elim (cases_eq f.slot slot) [
             | inl e ↦
                 let is : get_or (set s.records slot r) f.slot blank ≡ r = ap (λ n. get_or (set s.records slot r) n blank) e ∙ get_or-set_same s.records slot r blank slot_within in
-                subst (Fine s.width s.size f.commitment.bytes) (sym is) (fine f.commitment.bytes (subst (λ n. Fine s.width s.size f.commitment.bytes (get_or s.records n blank)) e h))
-            | inr ne ↦ subst (Fine s.width s.size f.commitment.bytes) (sym (get_or-set_other s.records slot f.slot r blank ne)) h
+                rw is (fine f.commitment.bytes (subst (λ n. Fine s.width s.size f.commitment.bytes (get_or s.records n blank)) e h))
+            | inr ne ↦ rw (get_or-set_other s.records slot f.slot r blank ne) h
           ]
 
 -- the round is no part of what holds of a record

@@ -25,7 +25,7 @@ keep-stored-requires c =
 
 pub join_checked-requires : goal.join_checked-requires
 join_checked-requires c =
-    subst (λ (x : Record). x.checked_count < 64) (sym c.keep-stored.ensures.stays) (room_checked c.args.slot.width c.args.self.now c.args.shard.index c.args.shard.bytes.now c.requires.fits)
+    rw c.keep-stored.ensures.stays (room_checked c.args.slot.width c.args.self.now c.args.shard.index c.args.shard.bytes.now c.requires.fits)
 
 pub returns : goal.returns
 returns c =
@@ -36,12 +36,11 @@ returns c =
     let is = c.keep-stored.ensures.stored in
     let joins = c.join_checked.ensures ∙ ap (λ (x : Record). with_checked (set x.checked x.checked_count c.keep-stored.result) (x.checked_count + 1) (with_verified x)) kept in
     let whole = joins ∙ ap (λ (s : Stored). with_checked (set r.checked r.checked_count s) (r.checked_count + 1) (with_verified (with_received k.received k.received_count (set r.contributed c.args.shard.index true) r))) is in
-    let table = subst (λ (s : Stored). take k.received_count k.received ≡ put by_index index_named s (take r.received_count r.received)) is c.keep-stored.ensures.table in
+    let table = rw is at c.keep-stored.ensures.table in
     let long : length k.received ≡ 64 = c.keep-stored.ensures.long ∙ o.sound.received_room in
-    let view-is : (size : ℕ) (blobs filed : List ℕ) → view (memory c.args.slot.width c.keep-stored.new.shards size blobs) filed c.args.slot.number c.join_checked.new.self ≡ _ = λ size blobs filed. ap (view (memory c.args.slot.width c.keep-stored.new.shards size blobs) filed c.args.slot.number) whole ∙ checks-view c.args.slot.width c.args.shard.index c.args.shard.bytes.now r o c.args.slot.number c.args.shards.now c.keep-stored.new.shards size blobs c.keep-stored.ensures.written c.keep-stored.ensures.others k.received k.received_count c.if-self.false table filed in
-    record {
-      verifies = λ size blobs filed. simp c.if-self.false (view-is size blobs filed);
-      sound = subst (Sound c.args.slot.width) (sym whole) (checks-sound c.args.slot.width c.args.shard.index c.args.shard.bytes.now r o c.args.slot.number c.args.shards.now c.keep-stored.new.shards 0 c.args.shards.now c.keep-stored.ensures.written c.keep-stored.ensures.others k.received k.received_count c.if-self.false table long c.keep-stored.ensures.count);
+        record {
+      verifies = λ size blobs filed. rw whole (checks-view c.args.slot.width c.args.shard.index c.args.shard.bytes.now r o c.args.slot.number c.args.shards.now c.keep-stored.new.shards size blobs c.keep-stored.ensures.written c.keep-stored.ensures.others k.received k.received_count c.if-self.false table filed);
+      sound = rw whole (checks-sound c.args.slot.width c.args.shard.index c.args.shard.bytes.now r o c.args.slot.number c.args.shards.now c.keep-stored.new.shards 0 c.args.shards.now c.keep-stored.ensures.written c.keep-stored.ensures.others k.received k.received_count c.if-self.false table long c.keep-stored.ensures.count);
       job = record { out = ap (λ (x : Record). x.job) whole; checked = ap (λ (x : Record). x.job_checked) whole; pending = ap (λ (x : Record). x.job_pending) whole };
       elsewhere = elsewhere c.args.slot.width c.args.slot.number c.args.shard.index c.args.shards.now c.keep-stored.new.shards o.within c.keep-stored.ensures.others;
     }
