@@ -7,6 +7,7 @@ use Rattle.record.specs.Joins.{Elsewhere}
 use Rattle.record.specs.Sound.{SameJob, Sound}
 use Rattle.record.specs.Views.{Memory, view}
 use Rattle.record.specs.declared.record.Record.{Record}
+use Rattle.record.specs.declared.slot.Slot.{Slot}
 use Rattle.intake.specs.declared.class.Class.{Class}
 use Rattle.intake.specs.declared.class.Class.TheVariants.{Assigned, Owned, Stray}
 use Rattle.intake.specs.declared.class.Stage.{Stage}
@@ -40,10 +41,10 @@ taken_as at c slot r t s =
     record { rec = view at c slot r; report = t.report; action = action_of t.action s; gained = t.gained }
 
 -- the record can be read and has room as before; its job and other slots' places are as they were
-pub record Kept (width slot : ℕ) (r s : Record) (before after : List ℕ) : Type 0 where
-  pub sound : Sound width s
+pub record Kept (slot : Slot) (r s : Record) (before after : List ℕ) : Type 0 where
+  pub sound : Sound slot.width s
   pub job : SameJob r s
-  pub elsewhere : Elsewhere width slot before after
+  pub elsewhere : Elsewhere slot.width slot.number before after
 
 -- intake that may have ended, else goes on
 abbrev pub unless_settled : Memory → List ℕ → ℕ → Record → Indexed → Option Taken → model.Taken → model.Taken

@@ -1,4 +1,20 @@
-// What a shard is to a record, by its sender and its index.
+// A shard that arrives, and what it is to a record, by its sender and its index.
+ghost use Rattle.std.specs.Prelude.{◌≡◌, ◌<◌, IfSome};
+ghost use Rattle.intake.specs.Classes.{Within, class_of, stage_of};
+ghost use Rattle.model.specs.Intake.{classed, is_assigned, leads};
+ghost use Rattle.record.specs.Views.{leader_of};
+
+use record::record::Record;
+use register::key::Key;
+use scheme::piece::Piece;
+
+// A shard, the key that sent it, and this node's own index among the members.
+#[derive(Clone, Copy)]
+pub struct Arrival<'a> {
+    pub sender: &'a Key,
+    pub own: Option<u16>,
+    pub shard: Piece<'a>,
+}
 
 #[derive(Clone, Copy)]
 pub enum Class {
@@ -16,4 +32,45 @@ pub enum Stage {
     Cached,
 }
 
-pub mod classify;
+impl Stage {
+    pub fn of(rec: &Record) -> Stage
+        ensures { result ≡ stage_of rec.now.cached }
+    {
+        if rec.cached {
+            Stage::Cached
+        } else {
+            Stage::Awaiting
+        }
+    }
+}
+
+// Whether the leader is known, and is this key.
+pub fn led_by(rec: &Record, key: &Key) -> bool
+    ensures { result ≡ leads (leader_of rec.now) key.now.bytes }
+{
+    rec.leader()
+        .is_some_and(|leader| leader.as_bytes() == key.as_bytes())
+}
+
+// `place` is the sender's index.
+fn assigned(rec: &Record, arrival: Arrival<'_>, place: u16) -> bool
+    ensures { result ≡ is_assigned arrival.entry.own (leader_of rec.now) arrival.entry.sender.now.bytes place arrival.entry.shard.index }
+{
+    match arrival.own {
+        Some(own) => arrival.shard.index == own,
+        None => led_by(rec, arrival.sender) && arrival.shard.index == place,
+    }
+}
+
+pub fn classify(rec: &Record, arrival: Arrival<'_>, place: u16) -> Class
+    ensures class { class_of result ≡ classed arrival.entry.own (leader_of rec.now) arrival.entry.sender.now.bytes place arrival.entry.shard.index }
+    ensures within { place < 64 → IfSome arrival.entry.own (λ i. i < 64) → Within result arrival.entry.shard.index }
+{
+    if assigned(rec, arrival, place) {
+        Class::Assigned
+    } else if arrival.shard.index == place {
+        Class::Owned
+    } else {
+        Class::Stray
+    }
+}

@@ -1,29 +1,25 @@
 -- A job that starts: the record's counts alone change, and mean what the model's job takes.
-use Rattle.std.proofs.Common.{◌≡◌, ℕ, ◌+◌, ◌-◌, ◌<◌, ◌≤◌, true, false, leb, List, [], map, length, take, drop, Some, Option, sym, refl, ap, ◌∙◌, arith, length-drop, drop_of_length-le, length-take, take-take, le-leb}
-use lib.ListN.{length-map}
+use Rattle.std.proofs.Common.{◌≡◌, ℕ, ◌+◌, ◌-◌, ◌<◌, ◌≤◌, Bool, true, false, leb, List, [], map, length, take, drop, Some, Option, sym, refl, ap, ◌∙◌, arith, drop_of_length-le, length-take, take-take, le-leb}
 use borrow.Author.Tests.{lt-leb}
-use Rattle.record.proofs.Counting.{contributions_most}
-use Rattle.std.proofs.lemmas.List.{take-map, drop-map}
+use Rattle.std.proofs.lemmas.List.{take-map, drop-map, length-map}
+use Rattle.std.proofs.lemmas.List.Sums.{count_by-le-length}
 use Rattle.scheme.specs.Pieces.{Indexed}
 use Rattle.model.specs.Jobs.{tried_in, tried_with}
 use Rattle.model.specs.State.{Job, Phase, awaiting, Sent, Shards, with_phase}
 use Rattle.record.specs.Sound.{Sound}
-use Rattle.record.specs.Started.{started}
+use Rattle.record.specs.Fields.{started}
 use Rattle.record.specs.Views.{Memory, job_of, phase_of, sent_in, shard_in, shards_of, view}
 use Rattle.record.specs.declared.record.Record.{Record}
 
 module _ {X Y : Type 0} (f : X → Y) (xs : List X) where
-  pub length_part : (a n : ℕ) → n ≤ length xs → length (map f (drop a (take n xs))) ≡ n - a
-  length_part a n h = simp (length-map, length-drop, length-take) (omega arith)
+  pub length_front : (n : ℕ) → n ≤ length xs → length (map f (take n xs)) ≡ n
+  length_front n h = simp (length-map, length-take) (omega arith)
 
   pub none_left : (n : ℕ) → map f (drop n (take n xs)) ≡ []
   none_left n = let h : length (take n xs) ≤ n = simp length-take (omega arith) in ap (map f) (drop_of_length-le (take n xs) h)
 
   pub front-taken : (k n : ℕ) → k ≤ n → take k (map f (drop 0 (take n xs))) ≡ map f (take k xs)
   front-taken k n h = take-map f k (take n xs) ∙ ap (map f) (take-take k n xs h)
-
-  pub rest_left : (k n : ℕ) → drop k (map f (drop 0 (take n xs))) ≡ map f (drop k (take n xs))
-  rest_left k n = drop-map f k (take n xs)
 
 pub same_shards : {a b c d : List Indexed} {p q : List Sent} {j k : Option Job} → a ≡ b → c ≡ d → p ≡ q → j ≡ k →
     ◌≡◌ {A = Shards} (record { received = a; checked = c; pending = p; job = j }) (record { received = b; checked = d; pending = q; job = k })
@@ -39,26 +35,22 @@ module _ (at : Memory) (slot minimum width : ℕ) (r : Record) (s : Sound width 
   sent_none : r.job_pending ≡ 0
   sent_none = (s.no_job idle).1
 
-  checked_few : r.checked_count ≤ length r.checked
-  checked_few = omega (arith, s.used, s.flags, s.checked_room, contributions_most r.contributed)
+  checked_length : length (map (shard_in at slot) (take r.checked_count r.checked)) ≡ r.checked_count
+  checked_length = length_front (shard_in at slot) r.checked r.checked_count (omega (arith, s.used, s.flags, s.checked_room, count_by-le-length (λ (b : Bool). b) r.contributed))
 
-  pending_few : r.pending_count ≤ length r.pending
-  pending_few = omega (arith, s.used, s.flags, s.pending_room, contributions_most r.contributed)
+  sent_length : length (map (sent_in at slot) (take r.pending_count r.pending)) ≡ r.pending_count
+  sent_length = length_front (sent_in at slot) r.pending r.pending_count (omega (arith, s.used, s.flags, s.pending_room, count_by-le-length (λ (b : Bool). b) r.contributed))
 
   pub starts : minimum ≤ r.checked_count + r.pending_count → shards_of at slot (started minimum r) ≡ tried_with minimum (job_of at slot r) (shards_of at slot r)
   starts h =
-      let l : length (map (shard_in at slot) (take r.checked_count r.checked)) ≡ r.checked_count = length_part (shard_in at slot) r.checked 0 r.checked_count checked_few ∙ omega arith in
-      let k : length (map (sent_in at slot) (take r.pending_count r.pending)) ≡ r.pending_count = length_part (sent_in at slot) r.pending 0 r.pending_count pending_few ∙ omega arith in
       let t : leb minimum (r.checked_count + r.pending_count) ≡ true = le-leb minimum (r.checked_count + r.pending_count) h in
-      simp (idle, taken_none, sent_none, l, k, t) (same_shards refl (none_left (shard_in at slot) r.checked r.checked_count) (sym (rest_left (sent_in at slot) r.pending (minimum - r.checked_count) r.pending_count)) (same_job refl (sym (front-taken (sent_in at slot) r.pending (minimum - r.checked_count) r.pending_count (omega arith)))))
+      simp (idle, taken_none, sent_none, checked_length, sent_length, t) (same_shards refl (none_left (shard_in at slot) r.checked r.checked_count) (sym (drop-map (sent_in at slot) (minimum - r.checked_count) (take r.pending_count r.pending))) (same_job refl (sym (front-taken (sent_in at slot) r.pending (minimum - r.checked_count) r.pending_count (omega arith)))))
 
   -- too few shards: nothing starts
   pub stays : r.checked_count + r.pending_count < minimum → shards_of at slot r ≡ tried_with minimum (job_of at slot r) (shards_of at slot r)
   stays h =
-      let l : length (map (shard_in at slot) (take r.checked_count r.checked)) ≡ r.checked_count = length_part (shard_in at slot) r.checked 0 r.checked_count checked_few ∙ omega arith in
-      let k : length (map (sent_in at slot) (take r.pending_count r.pending)) ≡ r.pending_count = length_part (sent_in at slot) r.pending 0 r.pending_count pending_few ∙ omega arith in
       let t : leb minimum (r.checked_count + r.pending_count) ≡ false = lt-leb minimum (r.checked_count + r.pending_count) h in
-      simp (idle, taken_none, sent_none, l, k, t) refl
+      simp (idle, taken_none, sent_none, checked_length, sent_length, t) refl
 
 module _ (at : Memory) (c : List ℕ) (slot minimum width : ℕ) (r : Record) (s : Sound width r) where
   same_phase : (p : Phase) → phase_of at slot r ≡ p → view at c slot r ≡ with_phase p (view at c slot r)

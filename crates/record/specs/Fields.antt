@@ -1,5 +1,5 @@
--- A record with one of its lists changed, and what the lists are ordered by. Assumes nothing.
-use Rattle.std.specs.Prelude.{ℕ, Bool, true, List}
+-- A record with some of its fields changed, and what its lists are ordered by. Assumes nothing.
+use Rattle.std.specs.Prelude.{ℕ, ◌-◌, Bool, true, List}
 use Rattle.std.specs.declared.cmp.Ordering.{Ordering}
 use Rattle.std.specs.Ordering.{nat_cmp}
 use Rattle.register.specs.Order.{order}
@@ -23,27 +23,25 @@ abbrev pub sender_named : Pending → Key
 sender_named p = p.sender
 
 abbrev pub with_received : List Stored → ℕ → List Bool → Record → Record
-with_received received n flags r =
-    record { round = r.round; led = r.led; leader = r.leader; contributed = flags; verified = r.verified; completions = r.completions; cached = r.cached; blob_len = r.blob_len; received = received; received_count = n; checked = r.checked; checked_count = r.checked_count; job_checked = r.job_checked; pending = r.pending; pending_count = r.pending_count; job_pending = r.job_pending; job = r.job }
+with_received received n flags r = record r { contributed = flags; received = received; received_count = n }
 
 abbrev pub with_checked : List Stored → ℕ → Record → Record
-with_checked checked n r =
-    record { round = r.round; led = r.led; leader = r.leader; contributed = r.contributed; verified = r.verified; completions = r.completions; cached = r.cached; blob_len = r.blob_len; received = r.received; received_count = r.received_count; checked = checked; checked_count = n; job_checked = r.job_checked; pending = r.pending; pending_count = r.pending_count; job_pending = r.job_pending; job = r.job }
+with_checked checked n r = record r { checked = checked; checked_count = n }
 
 abbrev pub with_pending : List Pending → ℕ → Record → Record
-with_pending pending n r =
-    record { round = r.round; led = r.led; leader = r.leader; contributed = r.contributed; verified = r.verified; completions = r.completions; cached = r.cached; blob_len = r.blob_len; received = r.received; received_count = r.received_count; checked = r.checked; checked_count = r.checked_count; job_checked = r.job_checked; pending = pending; pending_count = n; job_pending = r.job_pending; job = r.job }
+with_pending pending n r = record r { pending = pending; pending_count = n }
 
 abbrev pub with_verified : Record → Record
-with_verified r =
-    record { round = r.round; led = r.led; leader = r.leader; contributed = r.contributed; verified = true; completions = r.completions; cached = r.cached; blob_len = r.blob_len; received = r.received; received_count = r.received_count; checked = r.checked; checked_count = r.checked_count; job_checked = r.job_checked; pending = r.pending; pending_count = r.pending_count; job_pending = r.job_pending; job = r.job }
+with_verified r = record r { verified = true }
 
 -- all but the leader stays
 abbrev pub under_leader : Key → Record → Record
-under_leader leader r =
-    record { round = r.round; led = true; leader = leader; contributed = r.contributed; verified = r.verified; completions = r.completions; cached = r.cached; blob_len = r.blob_len; received = r.received; received_count = r.received_count; checked = r.checked; checked_count = r.checked_count; job_checked = r.job_checked; pending = r.pending; pending_count = r.pending_count; job_pending = r.job_pending; job = r.job }
+under_leader leader r = record r { led = true; leader = leader }
 
 -- all but the round stays
 abbrev pub at_round : Round → Record → Record
-at_round round r =
-    record { round = round; led = r.led; leader = r.leader; contributed = r.contributed; verified = r.verified; completions = r.completions; cached = r.cached; blob_len = r.blob_len; received = r.received; received_count = r.received_count; checked = r.checked; checked_count = r.checked_count; job_checked = r.job_checked; pending = r.pending; pending_count = r.pending_count; job_pending = r.job_pending; job = r.job }
+at_round round r = record r { round = round }
+
+-- a job has started: all checked are out, and pending ones up to the minimum
+abbrev pub started : ℕ → Record → Record
+started minimum r = record r { job_checked = r.checked_count; job_pending = minimum - r.checked_count; job = true }

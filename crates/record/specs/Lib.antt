@@ -1,5 +1,4 @@
 pub mod Fields
 pub mod Joins
 pub mod Sound
-pub mod Started
 pub mod Views

@@ -1,13 +1,12 @@
 -- What holds of every record between calls, so that its shards can be read and there is room for the next. Assumes nothing.
-use Rattle.std.specs.Prelude.{◌≡◌, ℕ, ◌+◌, ◌<◌, ◌≤◌, Bool, true, false, cond, List, [], ◌∷◌, length, take, slice_index_or}
-use Rattle.std.specs.List.{AllByRecursion}
+use Rattle.std.specs.Prelude.{◌≡◌, ℕ, ◌+◌, ◌<◌, ◌≤◌, Bool, true, false, List, length, take, slice_index_or}
+use Rattle.std.specs.List.{All, count_by}
 use Rattle.record.specs.declared.record.Record.{Record}
 use Rattle.record.specs.declared.stored.Stored.{Stored}
 
 -- how many indices have contributed
 abbrev pub contributions : List Bool → ℕ
-contributions [] = 0
-contributions (b ∷ flags) = cond b 1 0 + contributions flags
+contributions = count_by (λ b. b)
 
 -- a shard lies in a place of its own, within its width, and its index has contributed
 pub record Lies (width : ℕ) (flags : List Bool) (s : Stored) : Type 0 where
@@ -32,9 +31,9 @@ pub record Sound (width : ℕ) (r : Record) : Type 0 where
   pub job_checked : r.job_checked ≤ r.checked_count
   pub job_pending : r.job_pending ≤ r.pending_count
   pub no_job : r.job ≡ false → (r.job_checked ≡ 0) × (r.job_pending ≡ 0)
-  pub received_lie : AllByRecursion (Lies width r.contributed) (take r.received_count r.received)
-  pub checked_lie : AllByRecursion (Lies width r.contributed) (take r.checked_count r.checked)
-  pub pending_lie : AllByRecursion (λ p. Lies width r.contributed p.shard) (take r.pending_count r.pending)
+  pub received_lie : All (Lies width r.contributed) (take r.received_count r.received)
+  pub checked_lie : All (Lies width r.contributed) (take r.checked_count r.checked)
+  pub pending_lie : All (λ p. Lies width r.contributed p.shard) (take r.pending_count r.pending)
 
 -- a job holds at least the minimum
 abbrev pub Filled : ℕ → Record → Type 0

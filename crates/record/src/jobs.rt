@@ -3,7 +3,7 @@ ghost use Rattle.std.specs.Prelude.{◌≡◌, ℕ, ◌+◌, ◌≤◌, ◌||◌
 ghost use Rattle.model.specs.Jobs.{tried_in};
 ghost use Rattle.model.specs.State.{with_phase};
 ghost use Rattle.record.specs.Sound.{Filled, Sound};
-ghost use Rattle.record.specs.Started.{started};
+ghost use Rattle.record.specs.Fields.{started};
 ghost use Rattle.record.specs.Views.{Memory, phase_of, view};
 
 use crate::record::Record;

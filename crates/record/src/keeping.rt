@@ -2,11 +2,13 @@
 ghost use Rattle.std.specs.Prelude.{◌≡◌, ℕ, ◌+◌, ◌*◌, ◌<◌, ◌≤◌, true, length, take, drop, ◌≢◌, slice_set};
 ghost use Rattle.places.specs.Places.{held};
 ghost use Rattle.record.specs.Fields.{by_index, by_sender, index_named, sender_named, with_checked, with_pending, with_received};
+ghost use Rattle.record.specs.Joins.{Placed};
 ghost use Rattle.record.specs.Views.{place_of};
 ghost use Rattle.table.specs.Table.{put};
 
 use crate::filing::file;
 use crate::record::Record;
+use crate::slot::Slot;
 use crate::stored::{Pending, Stored};
 use register::key::Key;
 use register::ordered::Index;
@@ -14,12 +16,10 @@ use scheme::piece::Piece;
 
 impl Record {
     // Stores a shard's bytes: it is received, and its index has contributed.
-    pub fn keep(&mut self, shards: &mut [u8], width: usize, slot: usize, shard: Piece<'_>) -> Stored
+    pub fn keep(&mut self, shards: &mut [u8], slot: Slot, shard: Piece<'_>) -> Stored
         requires within { shard.index < 64 }
-        requires fits { length shard.bytes.now ≤ width }
-        requires narrow { width ≤ 1024 }
-        requires low { slot ≤ 16 }
-        requires there { (slot * 64 + 64) * width ≤ length shards.old }
+        requires fits { length shard.bytes.now ≤ slot.width }
+        requires placed { Placed slot shards.old }
         requires room { self.old.received_count < 64 }
         ensures stored { result ≡ record { index = record { 0 = shard.entry.index }; len = length shard.entry.bytes.now } }
         ensures stays { self.new ≡ with_received self.new.received self.new.received_count (slice_set self.old.contributed shard.entry.index true) self.old }
@@ -27,16 +27,15 @@ impl Record {
         ensures count { self.new.received_count ≤ self.old.received_count + 1 }
         ensures behind { drop (self.old.received_count + 1) self.new.received ≡ drop (self.old.received_count + 1) self.old.received }
         ensures long { length self.new.received ≡ length self.old.received }
-        ensures written { held width (place_of slot shard.entry.index) (length shard.entry.bytes.now) shards.new ≡ shard.entry.bytes.now }
-        ensures others { (other n : ℕ) → (other ≢ place_of slot shard.entry.index) → n ≤ width → held width other n shards.new ≡ held width other n shards.old }
+        ensures written { held slot.width (place_of slot.number shard.entry.index) (length shard.entry.bytes.now) shards.new ≡ shard.entry.bytes.now }
+        ensures others { (other n : ℕ) → (other ≢ place_of slot.number shard.entry.index) → n ≤ slot.width → held slot.width other n shards.new ≡ held slot.width other n shards.old }
     {
-        let index = shard.index as usize;
-        places::store(shards, width, slot * 64 + index, shard.bytes);
         let stored = Stored {
             index: Index(shard.index),
             len: shard.bytes.len() as u16,
         };
-        self.contributed[index] = true;
+        places::store(shards, slot.width, slot.place(stored.index), shard.bytes);
+        self.contributed[shard.index as usize] = true;
         self.received_count = file(&mut self.received, self.received_count, stored);
         stored
     }

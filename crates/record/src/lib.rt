@@ -2,10 +2,9 @@
 #![tactic(auto)]
 
 pub mod filing;
-pub mod fresh;
 pub mod jobs;
 pub mod keeping;
 pub mod record;
-pub mod rounds;
+pub mod slot;
 pub mod stored;
 pub mod taking;

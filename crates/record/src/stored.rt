@@ -1,4 +1,5 @@
-// Shards that lie in a record's places: the one of index i in the i-th.
+// Shards that lie in a record's places: the one of index i in the i-th. A length beside an index, and no slice of the bytes,
+// since the bytes lie in other memory that a C caller lends.
 use register::key::Key;
 use register::ordered::Index;
 use table::Entry;

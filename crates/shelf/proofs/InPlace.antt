@@ -1,7 +1,7 @@
 -- One record changed in its slot: it is the only one that changes.
-use Rattle.std.proofs.Common.{◌≡◌, ℕ, zero, suc, ◌<◌, Bool, cond, List, [], ◌∷◌, map, length, get_or, take, set, None, sym, refl, ap, ◌∙◌, arith, get_or-set_other, get_or-set_same}
-use Rattle.std.proofs.ByRecursion.{All-weaker}
-use Rattle.std.specs.List.{AllByRecursion}
+use Rattle.std.proofs.Common.{◌≡◌, ℕ, zero, suc, ◌<◌, Bool, cond, List, [], ◌∷◌, map, length, get_or, take, set, None, sym, refl, ap, ◌∙◌, subst, arith, get_or-set_other, get_or-set_same}
+use Rattle.std.proofs.lemmas.List.Elements.{All-head, All-tail}
+use Rattle.std.specs.List.{All, AllByRecursion}
 use Rattle.places.specs.Places.{held}
 use Rattle.model.specs.Promises.{Distinct}
 use Rattle.model.specs.State.{awaiting, cached}
@@ -71,17 +71,17 @@ module _ (width size slot : ℕ) (shards shards' blobs blobs' : List ℕ) (apart
     this_entry : (f : Filed) → f.slot ≡ slot → record_in new (set records slot r) f ≡ view new f.commitment.bytes slot r
     this_entry f is = ap (λ n. view new f.commitment.bytes n (get_or (set records slot r) n blank)) is ∙ ap (view new f.commitment.bytes slot) (get_or-set_same records slot r blank low)
 
-    all_others : (xs : List Filed) → AllByRecursion (λ y. slot ≡ y → ⊥) (map slot_of xs) → AllByRecursion fine_in xs → map (record_in new (set records slot r)) xs ≡ map (record_in at records) xs
+    all_others : (xs : List Filed) → AllByRecursion (λ y. slot ≡ y → ⊥) (map slot_of xs) → All fine_in xs → map (record_in new (set records slot r)) xs ≡ map (record_in at records) xs
     all_others [] d all = refl
     all_others (x ∷ xs) d all =
-        let a = other_entry x (λ e. d.0 (sym e)) all.0 in let b = all_others xs d.1 all.1 in cc
+        let a = other_entry x (λ e. d.0 (sym e)) (All-head fine_in x xs all) in let b = all_others xs d.1 (All-tail fine_in x xs all) in cc
 
     -- in a list of entries with slots of their own, only the one at place i has this slot
-    pub only_one : (xs : List Filed) (i : ℕ) → i < length xs → (get_or xs i nothing).slot ≡ slot → Distinct (map slot_of xs) → AllByRecursion fine_in xs →
+    pub only_one : (xs : List Filed) (i : ℕ) → i < length xs → (get_or xs i nothing).slot ≡ slot → Distinct (map slot_of xs) → All fine_in xs →
         map (record_in new (set records slot r)) xs ≡ set (map (record_in at records) xs) i (view new (get_or xs i nothing).commitment.bytes slot r)
     only_one [] i h is d all = absurd (omega arith)
     only_one (x ∷ xs) zero h is d all =
-        let a = this_entry x is in let b = all_others xs (All-weaker (λ y. x.slot ≡ y → ⊥) (λ y. slot ≡ y → ⊥) (λ y ne e. ne (is ∙ e)) (map slot_of xs) d.0) all.1 in cc
+        let a = this_entry x is in let b = all_others xs (subst (λ n. AllByRecursion (λ y. n ≡ y → ⊥) (map slot_of xs)) is d.0) (All-tail fine_in x xs all) in cc
     only_one (x ∷ xs) (suc i) h is d all =
         let ne : x.slot ≡ slot → ⊥ = λ e. slot_at (λ y. x.slot ≡ y → ⊥) xs i (omega arith) d.0 (e ∙ sym is) in
-        let a = other_entry x ne all.0 in let b = only_one xs i (omega arith) is d.1 all.1 in cc
+        let a = other_entry x ne (All-head fine_in x xs all) in let b = only_one xs i (omega arith) is d.1 (All-tail fine_in x xs all) in cc

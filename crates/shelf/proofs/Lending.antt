@@ -1,10 +1,10 @@
 -- The record at a place of the table, changed in its slot: what the shelf holds then.
-use Rattle.std.proofs.Common.{◌≡◌, ℕ, zero, suc, ◌+◌, ◌<◌, ◌≤◌, List, [], ◌∷◌, map, length, get_or, take, set, sym, refl, ap, ◌∙◌, subst, arith, length-set, length-take, get_or-set_other, get_or-set_same, get_or-take, take-take}
-use Rattle.std.proofs.ByRecursion.{All-get_or, All-set, All-take, All-weaker}
+use Rattle.std.proofs.Common.{◌≡◌, ℕ, zero, suc, ◌+◌, ◌<◌, ◌≤◌, inl, inr, List, [], ◌∷◌, map, length, get_or, take, set, sym, refl, ap, ◌∙◌, subst, arith, length-set, length-take, get_or-set_other, get_or-set_same, get_or-take, take-take}
+use Rattle.std.proofs.lemmas.Bool.{cases_eq}
+use Rattle.std.proofs.lemmas.List.Elements.{All-from_recursion, All-get_or, All-set, All-take, All-weaker, recursion_from_All}
 use Rattle.std.proofs.lemmas.List.{take-map}
 use Rattle.register.specs.declared.counters.Round.{Round}
 use Rattle.model.specs.Promises.{Distinct}
-use Rattle.record.proofs.Joining.{same_or_not}
 use Rattle.record.specs.Fields.{at_round}
 use Rattle.record.specs.Sound.{Rooms}
 use Rattle.record.specs.Views.{memory, view}
@@ -18,7 +18,8 @@ use Rattle.shelf.specs.declared.shelf.Shelf.{Shelf}
 distinct_take : (n : ℕ) (xs : List ℕ) → Distinct xs → Distinct (take n xs)
 distinct_take zero xs d = tt
 distinct_take (suc n) [] d = tt
-distinct_take (suc n) (x ∷ xs) d = (All-take (λ y. x ≡ y → ⊥) n xs d.0, distinct_take n xs d.1)
+distinct_take (suc n) (x ∷ xs) d =
+    (recursion_from_All (λ y. x ≡ y → ⊥) (take n xs) (All-take (λ y. x ≡ y → ⊥) n xs (All-from_recursion (λ y. x ≡ y → ⊥) xs d.0)), distinct_take n xs d.1)
 
 module _ (s : Shelf) (w : Whole s) (place : ℕ) (within : place < s.count) where
   -- the slot of the entry at the place
@@ -70,10 +71,12 @@ module _ (s : Shelf) (w : Whole s) (place : ℕ) (within : place < s.count) wher
     where
       still : (f : Filed) → Fine s.width s.size f.commitment.bytes (get_or s.records f.slot blank) → Fine s.width s.size f.commitment.bytes (get_or (set s.records slot r) f.slot blank)
       still f h =
-          same_or_not f.slot slot
-          (λ e. let is : get_or (set s.records slot r) f.slot blank ≡ r = ap (λ n. get_or (set s.records slot r) n blank) e ∙ get_or-set_same s.records slot r blank slot_within in
-          subst (Fine s.width s.size f.commitment.bytes) (sym is) (fine f.commitment.bytes (subst (λ n. Fine s.width s.size f.commitment.bytes (get_or s.records n blank)) e h)))
-          (λ ne. subst (Fine s.width s.size f.commitment.bytes) (sym (get_or-set_other s.records slot f.slot r blank ne)) h)
+          elim (cases_eq f.slot slot) [
+            | inl e ↦
+                let is : get_or (set s.records slot r) f.slot blank ≡ r = ap (λ n. get_or (set s.records slot r) n blank) e ∙ get_or-set_same s.records slot r blank slot_within in
+                rw is (fine f.commitment.bytes (subst (λ n. Fine s.width s.size f.commitment.bytes (get_or s.records n blank)) e h))
+            | inr ne ↦ rw (get_or-set_other s.records slot f.slot r blank ne) h
+          ]
 
 -- the round is no part of what holds of a record
 pub rooms_at_round : (round : Round) (r : Record) → Rooms r → Rooms (at_round round r)

@@ -1,17 +1,14 @@
 -- The example shelf is whole.
-use Rattle.std.proofs.Common.{◌≡◌, ℕ, zero, suc, List, replicate, refl, arith}
-use Rattle.std.specs.List.{AllByRecursion}
-use Rattle.record.specs.Sound.{Rooms, Sound}
-use Rattle.shelf.specs.Example.{ExampleIsWhole, begun}
+use Rattle.std.proofs.Common.{◌≡◌, ℕ, ◌≤◌, List, [], ◌∷◌, get_or, replicate, refl, arith}
+use Rattle.std.proofs.lemmas.List.Elements.{All-from_recursion, All-nil, All-replicate}
+use Rattle.record.specs.Sound.{Lies, Rooms, Sound}
+use Rattle.shelf.specs.Example.{ExampleIsWhole, begun, filed_in}
+use Rattle.shelf.specs.Views.{blank}
 use Rattle.shelf.specs.Whole.{Fine}
-
-all_alike : {X : Type 0} (P : X → Type 0) (x : X) → P x → (n : ℕ) → AllByRecursion P (replicate n x)
-all_alike P x h zero = tt
-all_alike P x h (suc n) = (h, all_alike P x h n)
 
 begun_sound : (width : ℕ) → Sound width begun
 begun_sound width =
-    record { flags = refl; received_room = refl; checked_room = refl; pending_room = refl; received = omega arith; used = omega arith; job_checked = omega arith; job_pending = omega arith; no_job = λ h. (refl, refl); received_lie = tt; checked_lie = tt; pending_lie = tt }
+    record { flags = refl; received_room = refl; checked_room = refl; pending_room = refl; received = omega arith; used = omega arith; job_checked = omega arith; job_pending = omega arith; no_job = λ h. (refl, refl); received_lie = All-nil (Lies width begun.contributed); checked_lie = All-nil (Lies width begun.contributed); pending_lie = All-nil (λ p. Lies width begun.contributed p.shard) }
 
 begun_fine : (c : List ℕ) → Fine 100 100 c begun
 begun_fine c = record { sound = begun_sound 100; filled = λ h. absurd (let z : ◌≡◌ {A = ℕ} 0 1 = cc in omega arith); blob = omega arith }
@@ -24,8 +21,8 @@ example_is_whole =
       few = omega arith;
       entries = refl;
       slots = refl;
-      low = (omega arith, (omega arith, tt));
+      low = All-from_recursion (λ f. f.slot ≤ 1) (filed_in 1 ∷ filed_in 0 ∷ []) (omega arith, (omega arith, tt));
       apart = (((λ h. let z : ◌≡◌ {A = ℕ} 0 1 = cc in omega arith), tt), (tt, tt));
-      rooms = all_alike Rooms begun (record { received = refl; checked = refl; pending = refl }) 17;
-      each = (begun_fine (replicate 100 1), tt);
+      rooms = All-replicate Rooms 17 begun (record { received = refl; checked = refl; pending = refl });
+      each = All-from_recursion (λ f. Fine 100 100 f.commitment.bytes (get_or (replicate 17 begun) f.slot blank)) (filed_in 1 ∷ []) (begun_fine (replicate 100 1), tt);
     }

@@ -1,6 +1,6 @@
 -- What holds of a shelf between calls. Assumes nothing.
 use Rattle.std.specs.Prelude.{◌≡◌, ℕ, ◌+◌, ◌*◌, ◌≤◌, List, map, length, take, ◌≢◌, slice_index_or}
-use Rattle.std.specs.List.{AllByRecursion}
+use Rattle.std.specs.List.{All}
 use Rattle.model.specs.Meaning.{minimum_of}
 use Rattle.model.specs.Promises.{Distinct}
 use Rattle.places.specs.Places.{held}
@@ -21,10 +21,10 @@ pub record Whole (s : Shelf) : Type 0 where
   pub few : s.count ≤ s.window + 1
   pub entries : length s.filed ≡ 17
   pub slots : length s.records ≡ 17
-  pub low : AllByRecursion (λ f. f.slot ≤ s.window) (take (s.window + 1) s.filed)
+  pub low : All (λ f. f.slot ≤ s.window) (take (s.window + 1) s.filed)
   pub apart : Distinct (map slot_of (take (s.window + 1) s.filed))
-  pub rooms : AllByRecursion Rooms s.records
-  pub each : AllByRecursion (λ f. Fine s.width s.size f.commitment.bytes (slice_index_or s.records f.slot blank)) (held_in s)
+  pub rooms : All Rooms s.records
+  pub each : All (λ f. Fine s.width s.size f.commitment.bytes (slice_index_or s.records f.slot blank)) (held_in s)
 
 -- the memory has every slot's places
 abbrev pub ShardsLent : Shelf → List ℕ → Type 0
@@ -38,5 +38,4 @@ abbrev pub OtherBlobs : ℕ → ℕ → List ℕ → List ℕ → Type 0
 OtherBlobs size slot before after = (other n : ℕ) → (other ≢ slot) → n ≤ size → held size other n after ≡ held size other n before
 
 abbrev pub with_records : List Record → Shelf → Shelf
-with_records records s =
-    record { window = s.window; width = s.width; size = s.size; filed = s.filed; count = s.count; records = records }
+with_records records s = record s { records = records }

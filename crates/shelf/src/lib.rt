@@ -2,5 +2,4 @@
 #![tactic(auto)]
 
 pub mod example;
-pub mod lent;
 pub mod shelf;

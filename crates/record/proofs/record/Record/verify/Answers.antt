@@ -1,4 +1,4 @@
-use Rattle.std.proofs.Common.{◌≡◌, ℕ, ◌+◌, ◌<◌, true, List, length, take, set, sym, refl, ap, ◌∙◌, subst, arith}
+use Rattle.std.proofs.Common.{◌≡◌, ℕ, ◌+◌, ◌<◌, true, List, length, take, set, sym, ap, ◌∙◌, subst}
 use Rattle.scheme.specs.Pieces.{indexed}
 use Rattle.table.specs.Table.{put}
 use Rattle.record.specs.Fields.{by_index, index_named, with_checked, with_received, with_verified}
@@ -6,30 +6,26 @@ use Rattle.record.specs.Sound.{Sound}
 use Rattle.record.specs.Views.{memory, view}
 use Rattle.record.specs.declared.record.Record.{Record}
 use Rattle.record.specs.declared.stored.Stored.{Stored}
-use Rattle.record.proofs.Counting.{contributions_less}
+use Rattle.record.proofs.Counting.{room_received, room_checked}
 use Rattle.record.proofs.Joined.{checks-sound, checks-view, late_sound, late_view}
 use Rattle.record.proofs.Joining.{elsewhere}
 use Rattle.record.proofs.record.Record.verify.Goals as goal
 
-pub returns-then-self : goal.returns-then-self
-returns-then-self c =
-    record {
-      verifies = λ size blobs filed. late_view c.args.width c.args.shard.index c.args.shard.bytes.now c.args.self.now c.requires.fits (memory c.args.width c.args.shards.now size blobs) filed c.args.slot (indexed c.args.shard) c.if-self.true;
-      sound = late_sound c.args.width c.args.shard.index c.args.shard.bytes.now c.args.self.now c.requires.fits;
-      job = record { out = refl; checked = refl; pending = refl };
-      elsewhere = λ other i n ne lt h. refl;
-    }
+pub returns-then-self-clause-verifies : goal.returns-then-self-clause-verifies
+returns-then-self-clause-verifies c size blobs filed =
+    late_view c.args.slot.width c.args.shard.index c.args.shard.bytes.now c.args.self.now c.requires.fits (memory c.args.slot.width c.args.shards.now size blobs) filed c.args.slot.number (indexed c.args.shard) c.if-self.true
+
+pub returns-then-self-clause-sound : goal.returns-then-self-clause-sound
+returns-then-self-clause-sound c = late_sound c.args.slot.width c.args.shard.index c.args.shard.bytes.now c.args.self.now c.requires.fits
 
 pub keep-stored-requires : goal.keep-stored-requires
 keep-stored-requires c =
-    let less = contributions_less c.args.self.now.contributed c.args.shard.index (omega (arith, c.requires.fits.within, c.requires.fits.sound.flags)) c.requires.fits.fresh in
-    record { within = c.requires.fits.within; fits = c.requires.fits.fits; narrow = c.requires.placed.narrow; low = c.requires.placed.low; there = c.requires.placed.there; room = omega (arith, less, c.requires.fits.sound.received, c.requires.fits.sound.flags) }
+    let o = c.requires.fits in
+    record { within = o.within; fits = o.fits; placed = c.requires.placed; room = room_received c.args.slot.width c.args.self.now c.args.shard.index c.args.shard.bytes.now o }
 
 pub join_checked-requires : goal.join_checked-requires
 join_checked-requires c =
-    let less = contributions_less c.args.self.now.contributed c.args.shard.index (omega (arith, c.requires.fits.within, c.requires.fits.sound.flags)) c.requires.fits.fresh in
-    let few : c.args.self.now.checked_count < 64 = omega (arith, less, c.requires.fits.sound.used, c.requires.fits.sound.flags) in
-    subst (λ (x : Record). x.checked_count < 64) (sym c.keep-stored.ensures.stays) few
+    rw c.keep-stored.ensures.stays (room_checked c.args.slot.width c.args.self.now c.args.shard.index c.args.shard.bytes.now c.requires.fits)
 
 pub returns : goal.returns
 returns c =
@@ -40,12 +36,11 @@ returns c =
     let is = c.keep-stored.ensures.stored in
     let joins = c.join_checked.ensures ∙ ap (λ (x : Record). with_checked (set x.checked x.checked_count c.keep-stored.result) (x.checked_count + 1) (with_verified x)) kept in
     let whole = joins ∙ ap (λ (s : Stored). with_checked (set r.checked r.checked_count s) (r.checked_count + 1) (with_verified (with_received k.received k.received_count (set r.contributed c.args.shard.index true) r))) is in
-    let table = subst (λ (s : Stored). take k.received_count k.received ≡ put by_index index_named s (take r.received_count r.received)) is c.keep-stored.ensures.table in
+    let table = rw is at c.keep-stored.ensures.table in
     let long : length k.received ≡ 64 = c.keep-stored.ensures.long ∙ o.sound.received_room in
-    let view-is : (size : ℕ) (blobs filed : List ℕ) → view (memory c.args.width c.keep-stored.new.shards size blobs) filed c.args.slot c.join_checked.new.self ≡ _ = λ size blobs filed. ap (view (memory c.args.width c.keep-stored.new.shards size blobs) filed c.args.slot) whole ∙ checks-view c.args.width c.args.slot c.args.shard.index c.args.shard.bytes.now c.args.shards.now c.keep-stored.new.shards size blobs r o c.keep-stored.ensures.written c.keep-stored.ensures.others k.received k.received_count c.if-self.false table filed in
-    record {
-      verifies = λ size blobs filed. simp c.if-self.false (view-is size blobs filed);
-      sound = subst (Sound c.args.width) (sym whole) (checks-sound c.args.width c.args.slot c.args.shard.index c.args.shard.bytes.now c.args.shards.now c.keep-stored.new.shards 0 c.args.shards.now r o c.keep-stored.ensures.written c.keep-stored.ensures.others k.received k.received_count c.if-self.false table long c.keep-stored.ensures.count);
+        record {
+      verifies = λ size blobs filed. rw whole (checks-view c.args.slot.width c.args.shard.index c.args.shard.bytes.now r o c.args.slot.number c.args.shards.now c.keep-stored.new.shards size blobs c.keep-stored.ensures.written c.keep-stored.ensures.others k.received k.received_count c.if-self.false table filed);
+      sound = rw whole (checks-sound c.args.slot.width c.args.shard.index c.args.shard.bytes.now r o c.args.slot.number c.args.shards.now c.keep-stored.new.shards 0 c.args.shards.now c.keep-stored.ensures.written c.keep-stored.ensures.others k.received k.received_count c.if-self.false table long c.keep-stored.ensures.count);
       job = record { out = ap (λ (x : Record). x.job) whole; checked = ap (λ (x : Record). x.job_checked) whole; pending = ap (λ (x : Record). x.job_pending) whole };
-      elsewhere = elsewhere c.args.width c.args.slot c.args.shard.index c.args.shards.now c.keep-stored.new.shards o.within c.keep-stored.ensures.others;
+      elsewhere = elsewhere c.args.slot.width c.args.slot.number c.args.shard.index c.args.shards.now c.keep-stored.new.shards o.within c.keep-stored.ensures.others;
     }

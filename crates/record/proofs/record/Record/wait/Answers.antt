@@ -1,27 +1,25 @@
-use Rattle.std.proofs.Common.{◌≡◌, ◌+◌, ◌<◌, ◌≤◌, length, take, drop, sym, ap, ◌∙◌, subst, arith}
+use Rattle.std.proofs.Common.{◌≡◌, ◌+◌, ◌<◌, ◌≤◌, length, take, drop, sym, ap, ◌∙◌, subst}
 use Rattle.table.specs.Table.{put}
 use Rattle.record.specs.Fields.{by_index, by_sender, index_named, sender_named, with_pending}
 use Rattle.record.specs.Sound.{Sound}
 use Rattle.record.specs.Views.{memory, view}
 use Rattle.record.specs.declared.record.Record.{Record}
 use Rattle.record.specs.declared.stored.Stored.{Stored}
-use Rattle.record.proofs.Counting.{contributions_less}
+use Rattle.record.proofs.Counting.{room_received, room_pending}
 use Rattle.record.proofs.Joined.{waits-sound, waits-view}
 use Rattle.record.proofs.Joining.{elsewhere}
 use Rattle.record.proofs.record.Record.wait.Goals as goal
 
 pub keep-stored-requires : goal.keep-stored-requires
 keep-stored-requires c =
-    let less = contributions_less c.args.self.now.contributed c.args.shard.index (omega (arith, c.requires.fits.within, c.requires.fits.sound.flags)) c.requires.fits.fresh in
-    record { within = c.requires.fits.within; fits = c.requires.fits.fits; narrow = c.requires.placed.narrow; low = c.requires.placed.low; there = c.requires.placed.there; room = omega (arith, less, c.requires.fits.sound.received, c.requires.fits.sound.flags) }
+    let o = c.requires.fits in
+    record { within = o.within; fits = o.fits; placed = c.requires.placed; room = room_received c.args.slot.width c.args.self.now c.args.shard.index c.args.shard.bytes.now o }
 
 pub join_pending-requires : goal.join_pending-requires
 join_pending-requires c =
-    let less = contributions_less c.args.self.now.contributed c.args.shard.index (omega (arith, c.requires.fits.within, c.requires.fits.sound.flags)) c.requires.fits.fresh in
-    let s = c.requires.fits.sound in
+    let o = c.requires.fits in
     let kept = c.keep-stored.ensures.stays in
-    let few : c.args.self.now.pending_count < 64 = omega (arith, less, s.used, s.flags) in
-    record { out = subst (λ (x : Record). x.job_pending ≤ x.pending_count) (sym kept) s.job_pending; room = subst (λ (x : Record). x.pending_count < 64) (sym kept) few }
+    record { out = rw kept o.sound.job_pending; room = rw kept (room_pending c.args.slot.width c.args.self.now c.args.shard.index c.args.shard.bytes.now o) }
 
 pub returns : goal.returns
 returns c =
@@ -32,16 +30,15 @@ returns c =
     let kept = c.keep-stored.ensures.stays in
     let is = c.keep-stored.ensures.stored in
     let whole = c.join_pending.ensures.stays ∙ ap (with_pending e.pending e.pending_count) kept in
-    let table = subst (λ (s : Stored). take k.received_count k.received ≡ put by_index index_named s (take r.received_count r.received)) is c.keep-stored.ensures.table in
-    let out = subst (λ (x : Record). take x.job_pending e.pending ≡ take x.job_pending x.pending) kept c.join_pending.ensures.job in
-    let waiting = subst (λ (x : Record). drop x.job_pending (take e.pending_count e.pending) ≡ put by_sender sender_named (record { sender = c.args.sender.now; shard = c.keep-stored.result }) (drop x.job_pending (take x.pending_count x.pending))) kept c.join_pending.ensures.table in
-    let waits = subst (λ (s : Stored). drop r.job_pending (take e.pending_count e.pending) ≡ put by_sender sender_named (record { sender = c.args.sender.now; shard = s }) (drop r.job_pending (take r.pending_count r.pending))) is waiting in
-    let counts = subst (λ (x : Record). (x.pending_count ≤ e.pending_count) × (e.pending_count ≤ x.pending_count + 1)) kept c.join_pending.ensures.count in
+    let table = rw is at c.keep-stored.ensures.table in
+    let out = rw kept at c.join_pending.ensures.job in
+    let waits = rw (kept, is) at c.join_pending.ensures.table in
+    let counts = rw kept at c.join_pending.ensures.count in
     let wide : length e.pending ≡ 64 = c.join_pending.ensures.long ∙ ap (λ (x : Record). length x.pending) kept ∙ o.sound.pending_room in
     let long : length k.received ≡ 64 = c.keep-stored.ensures.long ∙ o.sound.received_room in
     record {
-      waits = λ size blobs filed. ap (view (memory c.args.width c.keep-stored.new.shards size blobs) filed c.args.slot) whole ∙ waits-view c.args.width c.args.slot c.args.shard.index c.args.shard.bytes.now c.args.shards.now c.keep-stored.new.shards size blobs r o c.keep-stored.ensures.written c.keep-stored.ensures.others c.args.sender.now k.received k.received_count e.pending e.pending_count c.requires.before table out waits filed;
-      sound = subst (Sound c.args.width) (sym whole) (waits-sound c.args.width c.args.slot c.args.shard.index c.args.shard.bytes.now c.args.shards.now c.keep-stored.new.shards 0 c.args.shards.now r o c.keep-stored.ensures.written c.keep-stored.ensures.others c.args.sender.now k.received k.received_count e.pending e.pending_count c.requires.before table out waits long wide c.keep-stored.ensures.count counts.0 counts.1);
+      waits = λ size blobs filed. rw whole (waits-view c.args.slot.width c.args.shard.index c.args.shard.bytes.now r o c.args.slot.number c.args.shards.now c.keep-stored.new.shards size blobs c.keep-stored.ensures.written c.keep-stored.ensures.others c.args.sender.now k.received k.received_count e.pending e.pending_count c.requires.before table out waits filed);
+      sound = rw whole (waits-sound c.args.slot.width c.args.shard.index c.args.shard.bytes.now r o c.args.slot.number c.args.shards.now c.keep-stored.new.shards 0 c.args.shards.now c.keep-stored.ensures.written c.keep-stored.ensures.others c.args.sender.now k.received k.received_count e.pending e.pending_count c.requires.before table out waits long wide c.keep-stored.ensures.count counts.0 counts.1);
       job = record { out = ap (λ (x : Record). x.job) whole; checked = ap (λ (x : Record). x.job_checked) whole; pending = ap (λ (x : Record). x.job_pending) whole };
-      elsewhere = elsewhere c.args.width c.args.slot c.args.shard.index c.args.shards.now c.keep-stored.new.shards o.within c.keep-stored.ensures.others;
+      elsewhere = elsewhere c.args.slot.width c.args.slot.number c.args.shard.index c.args.shards.now c.keep-stored.new.shards o.within c.keep-stored.ensures.others;
     }

@@ -21,5 +21,5 @@ returns-clause-whole c =
     let r = get_or s.records slot blank in
     let round = larger r.round c.args.round in
     lent_whole s c.requires.whole c.args.place c.requires.within c.observe.new.self
-    (subst Rooms (sym c.observe.ensures.stays) (rooms_at_round round r (lent_rooms s c.requires.whole c.args.place c.requires.within)))
-    (λ k fine. subst (Fine s.width s.size k) (sym c.observe.ensures.stays) (fine_at_round round s.width s.size k r fine))
+    (rw c.observe.ensures.stays (rooms_at_round round r (lent_rooms s c.requires.whole c.args.place c.requires.within)))
+    (λ k fine. rw c.observe.ensures.stays (fine_at_round round s.width s.size k r fine))
