@@ -1,6 +1,6 @@
 -- The verdicts so far stand at the front, and the rest as it was.
 use Rattle.std.proofs.Common.{◌≡◌, map}
-use lib.Seq.{paste}
+use Rattle.std.proofs.Math.Seq.{paste}
 use Rattle.scheme.specs.Pieces.{indexed}
 use Rattle.scheme.proofs.scheme.Scheme.check_many.Given as goal
 
