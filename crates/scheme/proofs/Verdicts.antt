@@ -1,7 +1,7 @@
 -- A loop that writes one verdict for each shard. Assumes nothing.
 use Rattle.std.proofs.Common.{◌≡◌, ℕ, ◌+◌, ◌<◌, ◌≤◌, Bool, false, List, map, length, get_or, set, sym, ap, ◌∙◌, zero-add, arith, le-leb}
-use borrow.Author.Tests.{lt-leb}
-use lib.Seq.{paste}
+use Rattle.std.proofs.lemmas.Bool.{lt-leb}
+use Rattle.std.proofs.Math.Seq.{paste}
 use Rattle.std.proofs.lemmas.List.Edits.{paste_more}
 use Rattle.std.proofs.lemmas.List.{get_or-map, length-map, take_all}
 use Rattle.scheme.specs.Pieces.{indexed, judged}

@@ -1,6 +1,7 @@
 -- The depth is the least that has room for the last leaf. Assumes nothing.
 use Rattle.std.proofs.Common.{◌≡◌, ℕ, suc, ◌+◌, ◌^◌, ◌<◌, ◌≤◌, subst, ⊎_elim, pow-suc, arith, pow_mono}
-use lib.Count.{count_leading_zeros, leading_length}
+use Rattle.std.specs.Int.Count.{count_leading_zeros}
+use Rattle.std.proofs.lemmas.Nat.{leading_length}
 use Rattle.std.proofs.lemmas.Bool.{cases_lt}
 use Rattle.tree.specs.Trees.{depth}
 

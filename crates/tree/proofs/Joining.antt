@@ -1,6 +1,6 @@
 -- Lists of one length, joined, and their parts. Assumes nothing.
 use Rattle.std.proofs.Common.{◌≡◌, ℕ, zero, suc, ◌+◌, ◌*◌, ◌<◌, List, [], ◌∷◌, ◌++◌, length, get_or, take, drop, sym, ap, ◌∙◌, le_of_suc-le-suc, suc-mul, zero-mul, arith, length-append, get_or-drop, get_or-take, take_at}
-use lib.Seq.{drop-append-add}
+use Rattle.std.proofs.Math.Seq.{drop-append-add}
 use Rattle.std.specs.List.{flat_map}
 
 module _ {X : Type 0} (g : X → List ℕ) (w : ℕ) (z : X) where
