@@ -107,7 +107,7 @@ pub fn print_outcome(
             Ok(())
         }
         Outcome::Decoded(Err(Error::Coding(fault))) => {
-            println!(rt; "fault: Coding({} {})", fault_name(fault), fault.number())?;
+            println!(rt; "fault: Coding({} {})", fault_name(fault), u8::from(fault))?;
             Ok(())
         }
         Outcome::Decoded(Err(Error::Blob(misfit))) => {

@@ -4,8 +4,8 @@
 ghost use Rattle.copy.specs.Copies.{copy_good, copy_opens};
 
 use hash::Hash;
-use register::bytes::{same, write_front};
-use register::commitment::Config;
+use register::bytes::write_front;
+use scheme::coding::Coding;
 use scheme::fault::Fault;
 use scheme::piece::Piece;
 use scheme::scheme::Scheme;
@@ -18,33 +18,20 @@ impl Scheme for Copies {
 
     ghost opens = { λ _ digest config root. copy_opens };
 
-    fn check<D: Hash>(
-        &self,
-        hash: &D,
-        config: Config,
-        root: &[u8],
-        limit: usize,
-        shard: Piece<'_>,
-    ) -> bool {
-        let shards = u32::from(config.minimum) + u32::from(config.extra);
-        u32::from(shard.index) < shards && same(&hash.hash(shard.bytes), root)
+    fn check<D: Hash>(&self, hash: &D, coding: Coding<'_>, limit: usize, shard: Piece<'_>) -> bool {
+        let shards = u32::from(coding.config.minimum) + u32::from(coding.config.extra);
+        u32::from(shard.index) < shards && hash.hash(shard.bytes).as_slice() == coding.root
     }
 
     fn decode<D: Hash>(
         &self,
         hash: &D,
-        config: Config,
-        root: &[u8],
+        coding: Coding<'_>,
         shards: &[Piece<'_>],
         place: &mut [u8],
     ) -> Result<usize, Fault> {
-        if shards.is_empty() {
-            return Err(Fault::TooFew);
-        }
-        let blob = shards[0].bytes;
-        if !write_front(place, blob) {
-            return Err(Fault::TooLong);
-        }
+        let blob = shards.first().ok_or(Fault::TooFew)?.bytes;
+        write_front(place, blob)?;
         Ok(blob.len())
     }
 }

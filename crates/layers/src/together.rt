@@ -11,6 +11,7 @@ use register::commitment::Commitment;
 use register::counters::Epoch;
 use register::key::Key;
 use rosters::roster::Roster;
+use scheme::coding::Coding;
 use scheme::piece::Piece;
 use scheme::scheme::Scheme;
 
@@ -30,13 +31,8 @@ impl<D: Hash, S: Scheme, K: Kind, R: Roster> Node for Layers<D, S, K, R> {
     ghost fair = { Prim.search rules };
 
     fn check(&self, commitment: &Commitment, limit: usize, shard: Piece<'_>) -> bool {
-        self.scheme.check(
-            &self.hash,
-            commitment.config(),
-            commitment.root(),
-            limit,
-            shard,
-        )
+        self.scheme
+            .check(&self.hash, Coding::of(commitment), limit, shard)
     }
 
     fn rebuild(

@@ -6,6 +6,7 @@ use crate::open::open;
 use crate::picks::picks;
 use hash::Hash;
 use register::commitment::Config;
+use scheme::coding::Coding;
 use scheme::fault::Fault;
 use scheme::piece::Piece;
 use scheme::scheme::Scheme;
@@ -25,14 +26,8 @@ impl Scheme for Parity {
 
     ghost opens = { λ _ digest config root. parity_opens config };
 
-    fn check<D: Hash>(
-        &self,
-        hash: &D,
-        config: Config,
-        root: &[u8],
-        limit: usize,
-        shard: Piece<'_>,
-    ) -> bool {
+    fn check<D: Hash>(&self, hash: &D, coding: Coding<'_>, limit: usize, shard: Piece<'_>) -> bool {
+        let Coding { config, root } = coding;
         shaped(config)
             && shard.index <= config.minimum
             && rooted(
@@ -47,11 +42,11 @@ impl Scheme for Parity {
     fn decode<D: Hash>(
         &self,
         hash: &D,
-        config: Config,
-        root: &[u8],
+        coding: Coding<'_>,
         shards: &[Piece<'_>],
         place: &mut [u8],
     ) -> Result<usize, Fault> {
+        let config = coding.config;
         if !shaped(config) {
             return Err(Fault::TooFew);
         }

@@ -7,6 +7,7 @@ ghost use Rattle.scheme.specs.Pieces.{indexed, judged};
 use crate::keep::keep;
 use hash::Hash;
 use register::commitment::Commitment;
+use scheme::coding::Coding;
 use scheme::piece::Piece;
 use scheme::scheme::Scheme;
 
@@ -29,9 +30,9 @@ pub fn gather<D: Hash, S: Scheme>(
     if checked > shards.len() {
         return None;
     }
-    let (config, root) = (commitment.config(), commitment.root());
-    if !scheme.check_many(hash, config, root, limit, &shards[checked..], verdicts) {
-        return None;
-    }
+    let coding = Coding::of(commitment);
+    scheme
+        .check_many(hash, coding, limit, &shards[checked..], verdicts)
+        .ok()?;
     Some(checked + keep(&mut shards[checked..], verdicts))
 }

@@ -9,6 +9,7 @@ use block::blob::fit;
 use block::kind::{Kind, Reading};
 use hash::Hash;
 use register::commitment::Commitment;
+use scheme::coding::Coding;
 use scheme::piece::Piece;
 use scheme::scheme::Scheme;
 
@@ -24,7 +25,7 @@ pub fn open<D: Hash, S: Scheme, K: Kind>(
     ensures gives { result ≡ rebuilt (D.Hash.digest hash.now) (K.Kind.reads kind.now (D.Hash.digest hash.now)) commitment.now.bytes (under (S.Scheme.opens scheme.now (D.Hash.digest hash.now)) commitment.now.bytes (length place.old) (map indexed shards.now)) }
     ensures writes { place.new ≡ written (under (S.Scheme.opens scheme.now (D.Hash.digest hash.now)) commitment.now.bytes (length place.old) (map indexed shards.now)) place.old }
 {
-    let len = scheme.decode(hash, commitment.config(), commitment.root(), shards, place)?;
+    let len = scheme.decode(hash, Coding::of(commitment), shards, place)?;
     let reading = fit(hash, kind, commitment, &place[0..len])?;
     Ok(reading)
 }

@@ -1,20 +1,24 @@
 // Comparing and writing byte strings.
-ghost use Rattle.std.specs.Prelude.{◌≡◌, ◌++◌, length, drop, if◌then◌else◌, nat_le};
+ghost use Rattle.std.specs.Prelude.{◌≡◌, ◌++◌, length, drop, if◌then◌else◌, is_ok, nat_le};
 ghost use Rattle.register.specs.Order.{order};
 ghost use Rattle.std.specs.Str.{bytes_eq};
 
 use std::cmp::Ordering;
 
+// That a slice is too short for what is to be written there.
+#[derive(Clone, Copy, Debug, PartialEq, Eq)]
+pub struct NoRoom;
+
 // Writes `bytes` to the front of `place`; where they do not fit, nothing is written.
-pub fn write_front(place: &mut [u8], bytes: &[u8]) -> bool
-    ensures fits { result ≡ nat_le (length bytes.now) (length place.old) }
-    ensures after { place.new ≡ (if result then bytes.now ++ drop (length bytes.now) place.old else place.old) }
+pub fn write_front(place: &mut [u8], bytes: &[u8]) -> Result<(), NoRoom>
+    ensures fits { is_ok result ≡ nat_le (length bytes.now) (length place.old) }
+    ensures after { place.new ≡ (if is_ok result then bytes.now ++ drop (length bytes.now) place.old else place.old) }
 {
     if bytes.len() > place.len() {
-        return false;
+        return Err(NoRoom);
     }
-    place[0..bytes.len()].copy_from_slice(bytes);
-    true
+    place[..bytes.len()].copy_from_slice(bytes);
+    Ok(())
 }
 
 pub fn same(a: &[u8], b: &[u8]) -> bool

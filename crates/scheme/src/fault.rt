@@ -1,4 +1,9 @@
 // Why a list of shards does not open.
+ghost use Rattle.std.specs.Prelude.{◌≡◌};
+ghost use Rattle.scheme.specs.Faults.{fault_number};
+ghost use Rattle.scheme.specs.declared.fault.Fault.TheVariants.{TooLong};
+
+use register::bytes::NoRoom;
 
 #[derive(Clone, Copy, Debug, PartialEq, Eq)]
 pub enum Fault {
@@ -9,4 +14,25 @@ pub enum Fault {
     TooLong,
 }
 
-pub mod numbers;
+// The number that it goes by.
+impl From<Fault> for u8 {
+    ghost from_gives = { λ fault number. number ≡ fault_number fault };
+
+    fn from(fault: Fault) -> u8 {
+        match fault {
+            Fault::TooFew => 1,
+            Fault::Uneven => 2,
+            Fault::BadLength => 3,
+            Fault::Padding => 4,
+            Fault::TooLong => 5,
+        }
+    }
+}
+
+impl From<NoRoom> for Fault {
+    ghost from_gives = { λ _ fault. fault ≡ TooLong };
+
+    fn from(_: NoRoom) -> Fault {
+        Fault::TooLong
+    }
+}

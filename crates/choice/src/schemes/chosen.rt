@@ -5,7 +5,7 @@ use crate::schemes::SchemeChoice;
 use copy::Copies;
 use hash::Hash;
 use parity::coding::Parity;
-use register::commitment::Config;
+use scheme::coding::Coding;
 use scheme::fault::Fault;
 use scheme::piece::Piece;
 use scheme::scheme::Scheme;
@@ -15,31 +15,23 @@ impl Scheme for SchemeChoice {
 
     ghost opens = { opens_by };
 
-    fn check<D: Hash>(
-        &self,
-        hash: &D,
-        config: Config,
-        root: &[u8],
-        limit: usize,
-        shard: Piece<'_>,
-    ) -> bool {
+    fn check<D: Hash>(&self, hash: &D, coding: Coding<'_>, limit: usize, shard: Piece<'_>) -> bool {
         match self {
-            SchemeChoice::Copy => Copies.check(hash, config, root, limit, shard),
-            SchemeChoice::Parity => Parity.check(hash, config, root, limit, shard),
+            SchemeChoice::Copy => Copies.check(hash, coding, limit, shard),
+            SchemeChoice::Parity => Parity.check(hash, coding, limit, shard),
         }
     }
 
     fn decode<D: Hash>(
         &self,
         hash: &D,
-        config: Config,
-        root: &[u8],
+        coding: Coding<'_>,
         shards: &[Piece<'_>],
         place: &mut [u8],
     ) -> Result<usize, Fault> {
         match self {
-            SchemeChoice::Copy => Copies.decode(hash, config, root, shards, place),
-            SchemeChoice::Parity => Parity.decode(hash, config, root, shards, place),
+            SchemeChoice::Copy => Copies.decode(hash, coding, shards, place),
+            SchemeChoice::Parity => Parity.decode(hash, coding, shards, place),
         }
     }
 }

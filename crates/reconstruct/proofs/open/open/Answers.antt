@@ -10,7 +10,7 @@ returns-in_err-reading g c =
     let d = c.in_ok-len.ensures in
     let digest = g.D.Hash.digest c.args.hash.now in
     let opened = under (g.S.Scheme.opens c.args.scheme.now digest) c.args.commitment.now.bytes (length c.args.place.now) (map indexed c.args.shards.now) in
-    let t = simp (c.config.ensures, c.root.ensures) at d.tells in
+    let t = simp (c.of.ensures.config, c.of.ensures.root) at d.tells in
     let p = err_from_is_err_and c.from_residual-in_err-reading.result c.from_residual-in_err-reading.ensures.1 in
     record {
       gives = rw (p.1, p.2) (opened_fits digest (g.K.Kind.reads c.args.kind.now digest) c.args.commitment.now.bytes opened c.in_ok-len.len c.decode.new.place _ t c.in_err-reading.ensures);
@@ -22,7 +22,7 @@ returns g c =
     let d = c.in_ok-len.ensures in
     let digest = g.D.Hash.digest c.args.hash.now in
     let opened = under (g.S.Scheme.opens c.args.scheme.now digest) c.args.commitment.now.bytes (length c.args.place.now) (map indexed c.args.shards.now) in
-    let t = simp (c.config.ensures, c.root.ensures) at d.tells in
+    let t = simp (c.of.ensures.config, c.of.ensures.root) at d.tells in
     record {
       gives = opened_fits digest (g.K.Kind.reads c.args.kind.now digest) c.args.commitment.now.bytes opened c.in_ok-len.len c.decode.new.place _ t c.in_ok-reading.ensures;
       writes = opened_writes opened c.in_ok-len.len c.args.place.now c.decode.new.place t d.within c.decode.auto.place d.behind;

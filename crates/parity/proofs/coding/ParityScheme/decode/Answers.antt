@@ -6,7 +6,7 @@ use Rattle.parity.proofs.coding.ParityScheme.decode.Goals as goal
 pub returns : goal.returns
 returns g c =
     record {
-      tells = opens_picks (λ x. x.now) c.picks-found.result c.args.config (length c.args.place.now) c.from.result (map indexed c.args.shards.now) _ c.if-not-shaped.ensures c.from.ensures c.picks-found.ensures c.open.ensures.tells;
+      tells = opens_picks (λ x. x.now) c.picks-found.result c.args.coding.config (length c.args.place.now) c.from.result (map indexed c.args.shards.now) _ c.if-not-shaped.ensures c.from.ensures c.picks-found.ensures c.open.ensures.tells;
       within = c.open.ensures.within;
       behind = c.open.ensures.behind;
     }

@@ -8,5 +8,5 @@ abbrev pub invariant-loop-i : goal.invariant-loop-i
 invariant-loop-i g l =
     l.verdicts
     ≡ paste l.initial.verdicts 0
-    (map (λ s. g.Self.Scheme.good l.self (g.D.Hash.digest l.hash) l.config l.root l.limit s.index s.bytes) (map indexed l.shards))
+    (map (λ s. g.Self.Scheme.good l.self (g.D.Hash.digest l.hash) l.coding.config l.coding.root.now l.limit s.index s.bytes) (map indexed l.shards))
     l.i
