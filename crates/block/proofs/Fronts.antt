@@ -1,13 +1,13 @@
 -- Heads: what is written is read back, and what is read was written. Assumes nothing.
 use Rattle.std.proofs.Common.{◌≡◌, ℕ, ◌+◌, ◌<◌, ◌≤◌, leb, List, [], ◌∷◌, ◌++◌, length, get_or, take, drop, Some, sym, ap, ◌∙◌, subst, append_assoc, arith, length-append, length-drop, length-take-le, take-suc, take-add}
-use lib.Seq.{take-append_seam}
+use Rattle.std.proofs.Math.Seq.{take-append_seam}
 use Rattle.std.proofs.lemmas.Bool.{le-leb, leb-true}
 use Rattle.register.specs.Words.{word}
 use Rattle.block.specs.declared.head.Head.{Head}
 use Rattle.block.specs.Exact.{HeadForm}
 use Rattle.block.specs.Heads.{head_length, head_of}
 use Rattle.block.specs.Written.{Bytes, HeadHolds, head_bytes, number_bytes}
-use Rattle.block.proofs.Told.{some_from}
+use Rattle.std.proofs.lemmas.Option.{cond_some}
 use Rattle.block.proofs.Numbers.{length_number, number_word, word_behind, word_low}
 
 pub head_context : (context parent : List ℕ) (height : ℕ) (rest : List ℕ) → take (length context) (drop 1 (head_bytes context parent height ++ rest)) ≡ context
@@ -76,7 +76,7 @@ module _ (blob : List ℕ) (b : Bytes blob) (long : head_length blob ≤ length 
 
 pub head-written : (blob : List ℕ) (h : Head) → Bytes blob → head_of blob ≡ Some h → HeadForm blob h
 head-written blob h b e =
-    let f = some_from (leb (head_length blob) (length blob)) _ h e in
+    let f = cond_some (leb (head_length blob) (length blob)) _ h e in
     let long : head_length blob ≤ length blob = leb-true (head_length blob) (length blob) f.0 in
     subst (HeadForm blob) f.1 (record {
       context = context_in_front blob b long;

@@ -1,7 +1,7 @@
 -- Numbers in bytes: what is written is read back, and what is read was written. Assumes nothing.
 use Rattle.std.proofs.Common.{◌≡◌, ℕ, zero, suc, ◌+◌, ◌*◌, ◌/◌, ◌%◌, ◌^◌, ◌<◌, ◌≤◌, List, [], ◌∷◌, ◌++◌, length, get_or, take, drop, sym, refl, ap, ◌∙◌, subst, div-lt_iff_lt-mul, pow-suc, div-add-mod', zero-add, add-one, arith, lit<, length-append, length-drop, get_or-drop, take-suc}
-use lib.Arith.{digits_div, digits_lt, digits_mod}
-use lib.Seq.{append_snoc, drop-append_seam, get_or_at}
+use Rattle.std.proofs.Math.Arith.{digits_div, digits_lt, digits_mod}
+use Rattle.std.proofs.Math.Seq.{append_snoc, drop-append_seam, get_or_at}
 use Rattle.register.specs.Words.{word}
 use Rattle.block.specs.Written.{Bytes, number_bytes}
 

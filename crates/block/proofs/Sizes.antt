@@ -1,6 +1,6 @@
 -- Content behind its length: what is written is read back, and what is read was written. Assumes nothing.
 use Rattle.std.proofs.Common.{◌≡◌, ℕ, ◌+◌, ◌^◌, ◌<◌, ◌≤◌, List, ◌++◌, length, take, drop, sym, ap, ◌∙◌, append_assoc, arith, length-append, length-drop, length-take-le, take-add, drop_at}
-use lib.Seq.{drop-append-add, take-append_seam}
+use Rattle.std.proofs.Math.Seq.{drop-append-add, take-append_seam}
 use Rattle.register.specs.Words.{word}
 use Rattle.block.specs.Written.{Bytes, number_bytes, sized_bytes}
 use Rattle.block.proofs.Numbers.{length_number, number_word, word_behind}

@@ -7,13 +7,14 @@ use Rattle.register.specs.Words.{word}
 use Rattle.register.specs.declared.commitment.Config.{Config}
 use Rattle.block.specs.declared.blob.Misfit.{Misfit}
 use Rattle.block.specs.declared.kind.Reading.{Reading}
-use Rattle.block.specs.Blobs.{context_in, fitted, matched, parsed, same_config, sound}
+use Rattle.block.specs.Readings.{context_in}
+use Rattle.block.specs.Blobs.{fitted, matched, parsed, same_config, sound}
 use Rattle.block.specs.Written.{Bytes, number_bytes}
 use Rattle.block.proofs.Numbers.{number_word}
 
 ok_from : {A E : Type 0} (t : Bool) (x y : A) (f : E) → cond t (Ok x) (Err f) ≡ Ok y → (t ≡ true) × (x ≡ y)
 ok_from true x y f e = (refl, cc)
-ok_from false x y f e = let z : ◌≡◌ {A = ℕ} 0 1 = cc in absurd (omega arith)
+ok_from false x y f e = cc
 
 -- the config that stands behind the block
 pub record Behind (blob : List ℕ) (r : Reading) (config : Config) : Type 0 where
@@ -21,7 +22,7 @@ pub record Behind (blob : List ℕ) (r : Reading) (config : Config) : Type 0 whe
   pub is : config_at blob r.len ≡ config
 
 parsed_behind : (blob : List ℕ) (o : Option Reading) (r : Reading) (config : Config) → parsed blob o ≡ Ok (r, config) → Behind blob r config
-parsed_behind blob None r config e = let z : ◌≡◌ {A = ℕ} 0 1 = cc in absurd (omega arith)
+parsed_behind blob None r config e = cc
 parsed_behind blob (Some q) r config e =
     let f = ok_from (eqb (length blob) (q.len + 4) && sound (config_at blob q.len)) (q, config_at blob q.len) (r, config) _ e in
     let t = and_parts (eqb (length blob) (q.len + 4)) _ f.0 in
@@ -35,12 +36,12 @@ parsed_behind blob (Some q) r config e =
 -- the three tests in a row
 tests : (t u v : Bool) (q r : Reading) (d e f : Misfit) → cond t (cond u (cond v (Ok q) (Err d)) (Err e)) (Err f) ≡ Ok r → (u ≡ true) × (q ≡ r)
 tests true true true q r d e f h = (refl, cc)
-tests true true false q r d e f h = let z : ◌≡◌ {A = ℕ} 0 1 = cc in absurd (omega arith)
-tests true false v q r d e f h = let z : ◌≡◌ {A = ℕ} 0 1 = cc in absurd (omega arith)
-tests false u v q r d e f h = let z : ◌≡◌ {A = ℕ} 0 1 = cc in absurd (omega arith)
+tests true true false q r d e f h = cc
+tests true false v q r d e f h = cc
+tests false u v q r d e f h = cc
 
 pub matched_behind : (digest : List ℕ → List ℕ) (commitment blob : List ℕ) (o : Option Reading) (q : Result (Reading × Config) Misfit) (r : Reading) → parsed blob o ≡ q → matched digest commitment blob q ≡ Ok r → (config : Config) × Behind blob r config × (same_config config (config_of commitment) ≡ true)
-matched_behind digest commitment blob o (Err f) r e h = let z : ◌≡◌ {A = ℕ} 0 1 = cc in absurd (omega arith)
+matched_behind digest commitment blob o (Err f) r e h = cc
 matched_behind digest commitment blob o (Ok (q, config)) r e h =
     let t = tests (bytes_eq q.digest (block_of commitment)) (same_config config (config_of commitment)) (bytes_eq (digest (context_in blob q)) (context_of commitment)) q r _ _ _ h in
     (config, parsed_behind blob o r config (e ∙ ap (λ (p : Reading). Ok (p, config)) t.1), t.0)

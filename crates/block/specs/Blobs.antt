@@ -1,8 +1,9 @@
 -- A blob is a block and four config bytes; it fits a commitment if digest, config and the context's hash agree. Assumes nothing.
-use Rattle.std.specs.Prelude.{ℕ, ◌+◌, Bool, cond, not, ◌&&◌, List, length, take, drop, Some, None, Ok, Err, Option, Result, ◌==◌}
+use Rattle.std.specs.Prelude.{ℕ, ◌+◌, Bool, cond, not, ◌&&◌, List, length, Some, None, Ok, Err, Option, Result, ◌==◌}
 use Rattle.std.specs.Str.{bytes_eq}
 use Rattle.register.specs.declared.commitment.Config.{Config}
 use Rattle.register.specs.Commitments.{block_of, config_at, config_of, context_of}
+use Rattle.block.specs.Readings.{context_in}
 use Rattle.block.specs.declared.kind.Reading.{Reading}
 use Rattle.block.specs.declared.blob.Misfit.{Misfit}
 use Rattle.block.specs.declared.blob.Misfit.TheVariants.{Codec, DigestMismatch, ConfigMismatch, ContextMismatch}
@@ -13,10 +14,6 @@ sound c = not (c.minimum == 0) && not (c.extra == 0)
 
 abbrev pub same_config : Config → Config → Bool
 same_config a b = a.minimum == b.minimum && a.extra == b.extra
-
--- the context of the block that was read in front of a blob
-abbrev pub context_in : List ℕ → Reading → List ℕ
-context_in blob r = take r.context_len (drop r.context_from blob)
 
 -- a block read in front of a blob, and the sound config that is all that stands behind it
 abbrev pub parsed : List ℕ → Option Reading → Result (Reading × Config) Misfit

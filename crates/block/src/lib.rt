@@ -2,5 +2,6 @@
 #![tactic(auto)]
 
 pub mod blob;
+pub mod exact;
 pub mod head;
 pub mod kind;

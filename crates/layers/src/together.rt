@@ -3,7 +3,7 @@ ghost use Rattle.layers.specs.Together.{meaning_of, roster_of};
 ghost use Rattle.std.proofs.Common.{rules};
 
 use crate::node::Node;
-use block::kind::kinds::Kind;
+use block::kind::Kind;
 use hash::Hash;
 use reconstruct::outcome::Outcome;
 use reconstruct::reconstruct::reconstruct;

@@ -1,7 +1,7 @@
 -- Reading a Listed block is exact. Assumes nothing.
 use Rattle.std.specs.Prelude.{◌≡◌, ℕ, ◌^◌, ◌<◌, List, [], ◌++◌, length, take, Some, fold, slice_index_or}
 use Rattle.std.specs.List.{flat_map}
-use Rattle.block.specs.Blobs.{context_in}
+use Rattle.block.specs.Readings.{context_in}
 use Rattle.block.specs.Written.{Bytes, HeadHolds, head_bytes, number_bytes, sized_bytes}
 use Rattle.block.specs.declared.kind.Reading.{Reading}
 use Rattle.listed.specs.Listeds.{listed_reads}

@@ -1,24 +1,25 @@
 -- Listed blocks: what is written is read back, and what is read was written. Assumes nothing.
-use Rattle.std.specs.Prelude.{◌≡◌, ℕ, zero, suc, ◌+◌, ◌^◌, ◌<◌, ◌≤◌, List, [], ◌∷◌, ◌++◌, length, take, drop, Some, None, fold, Option, nat_le, slice_index, refl}
+use Rattle.std.specs.Prelude.{◌≡◌, ℕ, zero, suc, ◌+◌, ◌^◌, ◌<◌, ◌≤◌, ◌&&◌, List, [], ◌∷◌, ◌++◌, length, take, drop, Some, None, fold, Option, nat_le, slice_index, refl}
 use Rattle.std.proofs.Common.{append_assoc, sym, ap, subst, ◌∙◌, arith, lit<, length-append, length-drop, length-take-le, take-add}
 use Rattle.std.proofs.Math.Seq.{take-append_seam}
 use Rattle.std.proofs.lemmas.List.{append-nil}
-use Rattle.std.proofs.lemmas.Bool.{le-leb, leb-true}
-use Rattle.std.specs.Option.{option_map}
+use Rattle.std.proofs.lemmas.Bool.{and_parts, le-leb, leb-true}
+use Rattle.std.proofs.lemmas.Option.{cond_some}
+use Rattle.std.specs.Option.{option_and_then, option_map}
 use Rattle.std.specs.List.{flat_map}
 use Rattle.register.specs.Words.{word}
 use Rattle.block.proofs.Behind.{alone_from}
 use Rattle.block.proofs.Fronts.{context_in_front, front_form, front_holds, head_context, length-head, parent_in_front}
 use Rattle.block.proofs.Numbers.{length_number, number_word, word_behind, word_low}
 use Rattle.block.proofs.Sizes.{length_sized, sized_content, sized_length, sized_was_written}
-use Rattle.block.proofs.Told.{both_from, mapped_from}
-use Rattle.block.specs.Blobs.{context_in}
+use Rattle.block.proofs.Told.{mapped_from}
+use Rattle.block.specs.Readings.{context_in}
 use Rattle.block.specs.Heads.{head_length}
 use Rattle.block.specs.Readings.{Alone}
 use Rattle.block.specs.Written.{Bytes, head_bytes, number_bytes, sized_bytes}
 use Rattle.block.specs.declared.kind.Reading.{Reading}
 use Rattle.listed.specs.Exact.{EntriesShort, ListedForm, ListedHolds, listed_bytes, listed_digest, listed_reading}
-use Rattle.listed.specs.Listeds.{entry_walked, listed_ends, listed_reads, onward, walk_start, walked}
+use Rattle.listed.specs.Listeds.{entry_walked, listed_ends, listed_reads, walk_start, walked}
 use Rattle.listed.specs.declared.walk.Walk.{Walk}
 
 module _ (digest : List ℕ → List ℕ) where
@@ -50,7 +51,7 @@ module _ (digest : List ℕ → List ℕ) where
       let next : front ++ (sized_bytes x ++ (more ++ rest)) ≡ front ++ sized_bytes x ++ (more ++ rest) = sym (append_assoc front (sized_bytes x) (more ++ rest)) in
       let over : Walk = walk_at (length (front ++ sized_bytes x)) (taking d x) in
       ap (λ (blob : List ℕ). walked digest blob (suc (length xs)) (walk_at (length front) d)) here
-      ∙ ap (onward (walked digest (front ++ (sized_bytes x ++ (more ++ rest))) (length xs))) (entry_read front x (more ++ rest) d (h 0))
+      ∙ ap (option_and_then (walked digest (front ++ (sized_bytes x ++ (more ++ rest))) (length xs))) (entry_read front x (more ++ rest) d (h 0))
       ∙ ap (λ (blob : List ℕ). walked digest blob (length xs) over) next
       ∙ entries_read xs (front ++ sized_bytes x) rest (taking d x) (λ i. h (suc i))
       ∙ ap (λ (ys : List ℕ). Some (walk_at (length ys) (fold taking d (x ∷ xs)))) (append_assoc front (sized_bytes x) more)
@@ -125,12 +126,12 @@ module _ (digest : List ℕ → List ℕ) (blob : List ℕ) (b : Bytes blob) whe
   first : (n : ℕ) (w u v : Walk) → entry_walked digest blob w ≡ Some u → Run blob n u.at v.at → Run blob (suc n) w.at v.at
   first n w u v e run =
       let size : ℕ = word blob w.at 2 in
-      let f = both_from (nat_le (w.at + 2) (length blob)) (nat_le (w.at + 2 + size) (length blob)) _ u e in
-      let there : w.at + 2 + size ≤ length blob = leb-true (w.at + 2 + size) (length blob) f.1 in
+      let f = cond_some (nat_le (w.at + 2) (length blob) && nat_le (w.at + 2 + size) (length blob)) _ u e in
+      let there : w.at + 2 + size ≤ length blob = leb-true (w.at + 2 + size) (length blob) (and_parts (nat_le (w.at + 2) (length blob)) _ f.0).1 in
       let content : List ℕ = take size (drop (w.at + 2) blob) in
       let rest : size ≤ length (drop (w.at + 2) blob) = simp length-drop (omega arith) in
       let l : length content ≡ size = length-take-le size (drop (w.at + 2) blob) rest in
-      let at : u.at ≡ w.at + 2 + size = ap (λ (x : Walk). x.at) (sym f.2) in
+      let at : u.at ≡ w.at + 2 + size = ap (λ (x : Walk). x.at) (sym f.1) in
       record {
         entries = content ∷ run.entries;
         many = ap suc run.many;
@@ -142,8 +143,8 @@ module _ (digest : List ℕ → List ℕ) (blob : List ℕ) (b : Bytes blob) whe
             ∙ append_assoc (take w.at blob) (sized_bytes content) (flat_map sized_bytes run.entries);
       }
 
-  onward_run : (n : ℕ) (w v : Walk) (o : Option Walk) → ((u : Walk) → walked digest blob n u ≡ Some v → Run blob n u.at v.at) → entry_walked digest blob w ≡ o → onward (walked digest blob n) o ≡ Some v → Run blob (suc n) w.at v.at
-  onward_run n w v None more e h = let z : ◌≡◌ {A = ℕ} 0 1 = cc in absurd (omega arith)
+  onward_run : (n : ℕ) (w v : Walk) (o : Option Walk) → ((u : Walk) → walked digest blob n u ≡ Some v → Run blob n u.at v.at) → entry_walked digest blob w ≡ o → option_and_then (walked digest blob n) o ≡ Some v → Run blob (suc n) w.at v.at
+  onward_run n w v None more e h = cc
   onward_run n w v (Some u) more e h = first n w u v e (more u h)
 
   walked_run : (n : ℕ) (w v : Walk) → walked digest blob n w ≡ Some v → Run blob n w.at v.at

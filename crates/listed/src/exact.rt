@@ -1,8 +1,6 @@
 // Reading a Listed block is exact.
 ghost use Rattle.listed.specs.Exact.{ListedReadBack, ListedWasWritten};
 
-pub fn listed_reading_is_exact() -> u8
+pub fn listed_reading_is_exact()
     ensures { ListedReadBack × ListedWasWritten }
-{
-    0
-}
+{}

@@ -8,8 +8,7 @@ ghost use Rattle.listed.specs.Exactly;
 
 use crate::walk::Walk;
 use block::head::Head;
-use block::kind::Reading;
-use block::kind::kinds::Kind;
+use block::kind::{Kind, Reading};
 use hash::Hash;
 use register::words::read_u16;
 

@@ -1,6 +1,6 @@
 -- Reading a Plain block is exact. Assumes nothing.
 use Rattle.std.specs.Prelude.{◌≡◌, ℕ, ◌^◌, ◌<◌, List, ◌++◌, length, take, Some}
-use Rattle.block.specs.Blobs.{context_in}
+use Rattle.block.specs.Readings.{context_in}
 use Rattle.block.specs.Written.{Bytes, HeadHolds, head_bytes, sized_bytes}
 use Rattle.block.specs.declared.kind.Reading.{Reading}
 use Rattle.plain.specs.Plains.{plain_reads}

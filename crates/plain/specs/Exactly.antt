@@ -1,15 +1,15 @@
 -- Plain blocks: what is written is read back, and what is read was written. Assumes nothing.
-use Rattle.std.specs.Prelude.{◌≡◌, ℕ, ◌+◌, ◌≤◌, List, ◌++◌, length, take, drop, Some, Option, nat_le, slice_index}
+use Rattle.std.specs.Prelude.{◌≡◌, ℕ, ◌+◌, ◌≤◌, ◌&&◌, List, ◌++◌, length, take, drop, Some, Option, nat_le, slice_index}
 use Rattle.std.proofs.Common.{append_assoc, sym, ap, subst, ◌∙◌, arith, length-append, length-drop, length-take-le}
 use Rattle.std.proofs.Math.Seq.{take-append_seam}
-use Rattle.std.proofs.lemmas.Bool.{le-leb, leb-true}
+use Rattle.std.proofs.lemmas.Bool.{and_parts, le-leb, leb-true}
+use Rattle.std.proofs.lemmas.Option.{cond_some}
 use Rattle.register.specs.Words.{word}
 use Rattle.block.proofs.Behind.{alone_from}
 use Rattle.block.proofs.Fronts.{context_in_front, front_form, front_holds, head_context, length-head, parent_in_front}
 use Rattle.block.proofs.Numbers.{word_low}
 use Rattle.block.proofs.Sizes.{length_sized, sized_length, sized_was_written}
-use Rattle.block.proofs.Told.{both_from}
-use Rattle.block.specs.Blobs.{context_in}
+use Rattle.block.specs.Readings.{context_in}
 use Rattle.block.specs.Heads.{head_length}
 use Rattle.block.specs.Readings.{Alone}
 use Rattle.block.specs.Written.{Bytes, head_bytes, sized_bytes}
@@ -51,13 +51,13 @@ module _ (digest : List ℕ → List ℕ) (context parent : List ℕ) (height : 
 
 pub was_written : (digest : List ℕ → List ℕ) (blob : List ℕ) (r : Reading) → Bytes blob → plain_reads digest blob ≡ Some r → PlainForm blob r.len
 was_written digest blob r b e =
-    let f = both_from (nat_le (payload_from blob) (length blob)) (nat_le (plain_length blob) (length blob)) _ r e in
-    let all : plain_length blob ≤ length blob = leb-true (plain_length blob) (length blob) f.1 in
+    let f = cond_some (nat_le (payload_from blob) (length blob) && nat_le (plain_length blob) (length blob)) _ r e in
+    let all : plain_length blob ≤ length blob = leb-true (plain_length blob) (length blob) (and_parts (nat_le (payload_from blob) (length blob)) _ f.0).1 in
     let long : head_length blob ≤ length blob = omega arith in
     let size : ℕ = word blob (head_length blob) 2 in
     let rest : size ≤ length (drop (payload_from blob) blob) = simp length-drop (omega arith) in
     let l : length (take size (drop (payload_from blob) blob)) ≡ size = length-take-le size (drop (payload_from blob) blob) rest in
-    subst (λ (q : Reading). PlainForm blob q.len) f.2 (record {
+    subst (λ (q : Reading). PlainForm blob q.len) f.1 (record {
       context = context_in_front blob b long;
       parent = parent_in_front blob b long;
       height = word blob (slice_index blob 0 + 33) 8;

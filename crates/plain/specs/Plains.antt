@@ -1,5 +1,5 @@
 -- The kind Plain: a head, the payload's length in two bytes, the payload. Its digest is the hash of all that. Assumes nothing.
-use Rattle.std.specs.Prelude.{ℕ, ◌+◌, cond, List, length, take, Some, None, Option, nat_le, slice_index}
+use Rattle.std.specs.Prelude.{ℕ, ◌+◌, if◌then◌else◌, ◌&&◌, List, length, take, Some, None, Option, nat_le, slice_index}
 use Rattle.register.specs.Words.{word}
 use Rattle.block.specs.Heads.{head_length}
 use Rattle.block.specs.declared.kind.Reading.{Reading}
@@ -14,13 +14,11 @@ plain_length blob = payload_from blob + word blob (head_length blob) 2
 
 abbrev pub plain_reads : (List ℕ → List ℕ) → List ℕ → Option Reading
 plain_reads digest blob =
-    cond (nat_le (payload_from blob) (length blob))
-    (cond (nat_le (plain_length blob) (length blob))
-    (Some (record {
+    if nat_le (payload_from blob) (length blob) && nat_le (plain_length blob) (length blob)
+    then Some (record {
       len = plain_length blob;
       context_from = 1;
       context_len = slice_index blob 0;
       digest = digest (take (plain_length blob) blob);
-    }))
-    None)
-    None
+    })
+    else None

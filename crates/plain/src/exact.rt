@@ -1,8 +1,6 @@
 // Reading a Plain block is exact.
 ghost use Rattle.plain.specs.Exact.{PlainReadBack, PlainWasWritten};
 
-pub fn plain_reading_is_exact() -> u8
+pub fn plain_reading_is_exact()
     ensures { PlainReadBack × PlainWasWritten }
-{
-    0
-}
+{}

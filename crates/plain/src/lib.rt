@@ -7,8 +7,7 @@ ghost use Rattle.plain.specs.Exactly;
 ghost use Rattle.std.proofs.Common.{rules};
 
 use block::head::Head;
-use block::kind::Reading;
-use block::kind::kinds::Kind;
+use block::kind::{Kind, Reading};
 use hash::Hash;
 use register::words::read_u16;
 
@@ -26,12 +25,9 @@ impl Kind for Plain {
 
     fn read<D: Hash>(&self, hash: &D, blob: &[u8]) -> Option<Reading> {
         let head = Head::read(blob)?;
-        let payload_from = head.context_len + 43;
-        let len = payload_from + usize::from(read_u16(blob, head.context_len + 41)?);
-        if len > blob.len() {
-            return None;
-        }
-        let digest = hash.hash(&blob[0..len]);
+        let payload_len = usize::from(read_u16(blob, head.context_len + 41)?);
+        let len = head.context_len + 43 + payload_len;
+        let digest = hash.hash(blob.get(..len)?);
         Some(Reading {
             len,
             context_from: 1,

@@ -5,9 +5,8 @@ ghost use Rattle.register.specs.Commitments.{under};
 ghost use Rattle.scheme.specs.Pieces.{indexed};
 
 use crate::error::Error;
-use block::blob::fit::fit;
-use block::kind::Reading;
-use block::kind::kinds::Kind;
+use block::blob::fit;
+use block::kind::{Kind, Reading};
 use hash::Hash;
 use register::commitment::Commitment;
 use scheme::coding::Coding;

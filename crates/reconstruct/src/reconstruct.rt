@@ -9,7 +9,7 @@ ghost use Rattle.scheme.specs.Pieces.{indexed, judged};
 use crate::gather::gather;
 use crate::open::open;
 use crate::outcome::Outcome;
-use block::kind::kinds::Kind;
+use block::kind::Kind;
 use hash::Hash;
 use register::commitment::Commitment;
 use scheme::piece::Piece;

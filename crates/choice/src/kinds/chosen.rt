@@ -7,8 +7,7 @@ ghost use Rattle.listed.specs.Exactly as ListedExactly;
 ghost use Rattle.plain.specs.Exactly as PlainExactly;
 
 use crate::kinds::KindChoice;
-use block::kind::Reading;
-use block::kind::kinds::Kind;
+use block::kind::{Kind, Reading};
 use hash::Hash;
 use listed::Listed;
 use plain::Plain;
