@@ -19,7 +19,8 @@ pub fn byte(high: u8, low: u8) -> Option<u8>
     Some(h * 16 + l)
 }
 
-// Reads the digits in `word` to bytes behind those in `out`.
+// Reads the digits in `word` to bytes behind those in `out`. The kit's `hex` would be no plainer, with a `Vec` more and an
+// error to turn: `out.extend_from_slice(&hex::decode(heap, word).map_err(..)?)?`.
 pub fn push_hex(out: &mut Vec<u8>, word: &[u8]) -> Result<(), Complaint>
     ensures read { OnOk result (Reads out.old.items (vec_len out.old) word.now (length word.now / 2) out.new.items (vec_len out.new)) }
     ensures refused { IfErr result (λ e. (e ≡ Complaint.NotHex) ⊎ (e ≡ Complaint.Memory)) }

@@ -33,7 +33,7 @@ fn finish(draft: Draft) -> Result<ShardFile, Complaint> {
 pub fn parse(heap: Global, text: &str) -> Result<ShardFile, LineFault> {
     let mut draft = Draft::new(heap);
     for (i, words) in text.lines().enumerate() {
-        let line = i.saturating_add(1);
+        let line = i + 1;
         draft
             .take_line(heap, line, words)
             .map_err(|complaint| LineFault { line, complaint })?;
