@@ -1,5 +1,5 @@
 -- The name of each choice, and what a name stands for. Assumes nothing.
-use Rattle.std.specs.Prelude.{◌≡◌, ℕ, List, Some, None, codes, Option, ◌≢◌}
+use Rattle.std.specs.Prelude.{◌≡◌, ℕ, List, codes, Ok, Err, Result, ◌≢◌}
 use Rattle.choice.specs.declared.hashes.HashChoice.{HashChoice}
 use Rattle.choice.specs.declared.hashes.HashChoice.TheVariants.{Sha256, Sha3}
 use Rattle.choice.specs.declared.kinds.KindChoice.{KindChoice}
@@ -19,7 +19,7 @@ abbrev pub kind_name : KindChoice → List ℕ
 kind_name Plain = codes "plain"
 kind_name Listed = codes "listed"
 
--- the choice of that name, or none where none has it
-abbrev pub Named : {C : Type 0} → (C → List ℕ) → List ℕ → Option C → Type 0
-Named name_of name (Some c) = name ≡ name_of c
-Named {C} name_of name None = (c : C) → name ≢ name_of c
+-- the choice of that name, or an error where none has it
+abbrev pub Named : {C E : Type 0} → (C → List ℕ) → List ℕ → Result C E → Type 0
+Named name_of name (Ok c) = name ≡ name_of c
+Named {C} name_of name (Err _) = (c : C) → name ≢ name_of c

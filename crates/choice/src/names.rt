@@ -1,70 +1,31 @@
 // The names that choices go by.
-ghost use Rattle.std.specs.Prelude.{◌≡◌};
-ghost use Rattle.choice.specs.Names.{Named, hash_name, kind_name, scheme_name};
+ghost use Rattle.std.specs.Prelude.{◌≡◌, ℕ, List, Contains};
+ghost use Rattle.choice.specs.Names.{Named};
 
-use crate::hashes::HashChoice;
-use crate::kinds::KindChoice;
-use crate::schemes::SchemeChoice;
+// No choice goes by that name.
+#[derive(Clone, Copy, Debug, PartialEq, Eq)]
+pub struct UnknownName;
 
-impl HashChoice {
-    pub fn from_name(name: &str) -> Option<HashChoice>
-        ensures { Named hash_name name.now result }
-    {
-        match name {
-            "sha-256" => Some(HashChoice::Sha256),
-            "sha3-256" => Some(HashChoice::Sha3),
-            _ => None,
-        }
-    }
+// What is chosen by a name from a few, of which no two share one.
+pub trait Choice: Copy + 'static {
+    ghost name_of: { Self → List ℕ };
 
-    pub fn name(self) -> &'static str
-        ensures { result.now ≡ hash_name self }
-    {
-        match self {
-            HashChoice::Sha256 => "sha-256",
-            HashChoice::Sha3 => "sha3-256",
-        }
-    }
+    fn all() -> &'static [Self]
+        ensures { (choice : Self) → Contains result.now choice };
+
+    fn name(self) -> &'static str
+        ensures { result.now ≡ name_of self };
+
+    ghost apart: { (a b : Self) → name_of a ≡ name_of b → a ≡ b };
 }
 
-impl SchemeChoice {
-    pub fn from_name(name: &str) -> Option<SchemeChoice>
-        ensures { Named scheme_name name.now result }
-    {
-        match name {
-            "copy" => Some(SchemeChoice::Copy),
-            "parity" => Some(SchemeChoice::Parity),
-            _ => None,
-        }
-    }
-
-    pub fn name(self) -> &'static str
-        ensures { result.now ≡ scheme_name self }
-    {
-        match self {
-            SchemeChoice::Copy => "copy",
-            SchemeChoice::Parity => "parity",
-        }
-    }
-}
-
-impl KindChoice {
-    pub fn from_name(name: &str) -> Option<KindChoice>
-        ensures { Named kind_name name.now result }
-    {
-        match name {
-            "plain" => Some(KindChoice::Plain),
-            "listed" => Some(KindChoice::Listed),
-            _ => None,
-        }
-    }
-
-    pub fn name(self) -> &'static str
-        ensures { result.now ≡ kind_name self }
-    {
-        match self {
-            KindChoice::Plain => "plain",
-            KindChoice::Listed => "listed",
-        }
-    }
+// The choice of that name: what `from_str` does for each of them.
+pub fn by_name<C: Choice>(name: &str) -> Result<C, UnknownName>
+    ensures { Named C.name_of name.now result }
+{
+    C::all()
+        .iter()
+        .find(|choice| choice.name() == name)
+        .copied()
+        .ok_or(UnknownName)
 }

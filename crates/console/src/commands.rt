@@ -3,7 +3,7 @@
 use crate::print::{Hex, print_outcome, print_shards};
 use anyhow::anyhow;
 use choice::hashes::HashChoice;
-use examine::file::examine;
+use examine::examine;
 use hash::Hash;
 use shardfile::parse::parse;
 use std::env::Args;
@@ -56,9 +56,9 @@ fn open_all(rt: &HostRuntime, paths: Args) -> anyhow::Result<()> {
 
 // A file's digest, as sha256sum and its kin print it.
 fn print_hash(rt: &HostRuntime, name: &str, path: &str) -> anyhow::Result<()> {
-    let Some(hash) = HashChoice::from_name(name) else {
-        return Err(anyhow!("no such hash: covasluk --help lists them"));
-    };
+    let hash: HashChoice = name
+        .parse()
+        .map_err(|_| anyhow!("no such hash: covasluk --help lists them"))?;
     let bytes = fs::read(rt, path)?;
     println!(rt; "{}  {path}", Hex(&hash.hash(bytes.as_slice())))?;
     Ok(())

@@ -1,6 +1,5 @@
 // Printing what was examined.
-use anyhow::anyhow;
-use block::blob::Misfit;
+use anyhow::Context;
 use block::head::Head;
 use block::kind::Reading;
 use choice::kinds::KindChoice;
@@ -8,7 +7,6 @@ use examine::Examined;
 use reconstruct::error::Error;
 use reconstruct::outcome::Outcome;
 use register::words::read_u16;
-use scheme::fault::Fault;
 use shardfile::file::ShardFile;
 use std::fmt;
 
@@ -33,7 +31,7 @@ pub fn print_shards(rt: &HostRuntime, file: &ShardFile, examined: &Examined) -> 
     println!(rt; "  root     {}", Hex(file.commitment.root()))?;
     println!(rt; "  context  {}", Hex(file.commitment.context()))?;
     println!(rt; "  config   minimum {minimum}, extra {extra}")?;
-    println!(rt; "shards ({}, {})", file.scheme.name(), file.hash.name())?;
+    println!(rt; "shards ({}, {})", file.scheme, file.hash)?;
     for (arrival, verdict) in file.arrivals.iter().zip(examined.verdicts.iter()) {
         let word = if *verdict { "good" } else { "bad" };
         let (line, index) = (arrival.line, arrival.index);
@@ -45,42 +43,17 @@ pub fn print_shards(rt: &HostRuntime, file: &ShardFile, examined: &Examined) -> 
     Ok(())
 }
 
-fn fault_name(fault: Fault) -> &'static str {
-    match fault {
-        Fault::TooFew => "TooFew",
-        Fault::Uneven => "Uneven",
-        Fault::BadLength => "BadLength",
-        Fault::Padding => "Padding",
-        Fault::TooLong => "TooLong",
-    }
-}
-
-fn misfit_name(misfit: Misfit) -> &'static str {
-    match misfit {
-        Misfit::Codec => "Codec",
-        Misfit::DigestMismatch => "DigestMismatch",
-        Misfit::ConfigMismatch => "ConfigMismatch",
-        Misfit::ContextMismatch => "ContextMismatch",
-    }
-}
-
 fn print_block(
     rt: &HostRuntime,
     file: &ShardFile,
     reading: Reading,
     place: &[u8],
 ) -> anyhow::Result<()> {
-    println!(rt; "block ({}), {} bytes", file.kind.name(), reading.len)?;
-    let Some(head) = Head::read(place) else {
-        return Err(anyhow!("the block has no head"));
-    };
+    println!(rt; "block ({}), {} bytes", file.kind, reading.len)?;
+    let head = Head::read(place).context("the block has no head")?;
     let n = head.context_len;
-    let Some(context) = place.get(1..1 + n) else {
-        return Err(anyhow!("the block has no context"));
-    };
-    let Some(parent) = place.get(1 + n..33 + n) else {
-        return Err(anyhow!("the block has no parent"));
-    };
+    let context = place.get(1..1 + n).context("the block has no context")?;
+    let parent = place.get(1 + n..33 + n).context("the block has no parent")?;
     println!(rt; "  context  {}", Hex(context))?;
     println!(rt; "  parent   {}", Hex(parent))?;
     println!(rt; "  height   {}", head.height.0)?;
@@ -107,11 +80,11 @@ pub fn print_outcome(
             Ok(())
         }
         Outcome::Decoded(Err(Error::Coding(fault))) => {
-            println!(rt; "fault: Coding({} {})", fault_name(fault), u8::from(fault))?;
+            println!(rt; "fault: Coding({fault:?} {})", u8::from(fault))?;
             Ok(())
         }
         Outcome::Decoded(Err(Error::Blob(misfit))) => {
-            println!(rt; "fault: {}", misfit_name(misfit))?;
+            println!(rt; "fault: {misfit:?}")?;
             Ok(())
         }
         Outcome::Decoded(Ok(reading)) => print_block(rt, file, reading, &examined.place),

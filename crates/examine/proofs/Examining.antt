@@ -1,7 +1,6 @@
 -- With as many places for verdicts as there are shards, none checked before, a reconstruction tells of the file. Assumes nothing.
-use Rattle.std.proofs.Common.{◌≡◌, ℕ, ◌-◌, ◌≤◌, Bool, true, cond, List, [], map, length, drop, is_some, Some, None, vec_items, vec_len, Option, Vec, sym, ap, ◌∙◌, subst, arith, le-leb, MatchOption}
-use Rattle.std.proofs.lemmas.List.{append-nil, drop_all, length-map, length-replicate, with_items_is}
-use Rattle.std.specs.Vec.{with_items}
+use Rattle.std.proofs.Common.{◌≡◌, ℕ, ◌-◌, ◌≤◌, Bool, true, cond, List, [], map, length, drop, is_some, Some, None, Option, sym, ap, ◌∙◌, subst, arith, le-leb, MatchOption}
+use Rattle.std.proofs.lemmas.List.{append-nil, drop_all, length-map, length-replicate}
 use Rattle.choice.specs.Choices.{good_by, opens_by, reads_by}
 use Rattle.reconstruct.specs.Gathered.{gathered, roomy}
 use Rattle.reconstruct.specs.Outcomes.{ended, filled}
@@ -89,8 +88,3 @@ module _ (file : ShardFile) (ps : List Piece) (v : List Bool) (room : length v �
 
     pub examined : (y : List ℕ) (w : List Bool) → Writes y → Judges w → Examines file w o y
     examined y w writes j = record { judged = judges w j; ends = ends; blob = fills y writes }
-
--- what was written through a loan of each Vec stands in the Vec
-pub examined_vecs : {Z : Type 0} (file : ShardFile) (v : Vec Bool Z) (p : Vec ℕ Z) (w : List Bool) (o : Outcome) (y : List ℕ) → length w ≡ vec_len v → length y ≡ vec_len p → Examines file w o y → Examines file (vec_items (with_items v w)) o (vec_items (with_items p y))
-examined_vecs file v p w o y a b e =
-    record { judged = with_items_is v w a ∙ e.judged; ends = e.ends; blob = with_items_is p y b ∙ e.blob }

@@ -1,2 +1,1 @@
-mod Arriving
 mod Examining

@@ -1,11 +1,13 @@
 // A shard file while it is read: each line adds to it.
 ghost use Rattle.std.specs.Prelude.{◌≡◌, ◌≤◌, [], IfOk, MatchResult};
+ghost use Rattle.std.specs.Result.{result_ok};
 ghost use Rattle.shardfile.specs.Settled.{Settled};
 
 use crate::file::{Arrival, Complaint};
-use crate::hex::{HexFault, push_hex};
+use crate::hex::push_hex;
 use choice::hashes::HashChoice;
 use choice::kinds::KindChoice;
+use choice::names::UnknownName;
 use choice::schemes::SchemeChoice;
 use register::commitment::Commitment;
 use std::alloc::Global;
@@ -21,41 +23,36 @@ pub struct Draft {
     pub arrivals: Vec<Arrival>,
 }
 
-// The bytes that the rest of the words write, joined.
-fn hex_words(heap: Global, words: &mut SplitWhitespace<'_>) -> Result<Vec<u8>, Complaint> {
-    let mut bytes = Vec::new(heap);
-    for word in words {
-        match push_hex(&mut bytes, word.as_bytes()) {
-            Ok(()) => {}
-            Err(HexFault::NotHex) => return Err(Complaint::NotHex),
-            Err(HexFault::Memory) => return Err(Complaint::Memory),
-        }
-    }
-    Ok(bytes)
+fn next_word<'a>(words: &mut SplitWhitespace<'a>) -> Result<&'a str, Complaint> {
+    words.next().ok_or(Complaint::WordMissing)
 }
 
 // The one word that is left.
 fn only<'a>(words: &mut SplitWhitespace<'a>) -> Result<&'a str, Complaint> {
-    let Some(word) = words.next() else {
-        return Err(Complaint::WordMissing);
-    };
-    if words.next().is_some() {
-        return Err(Complaint::WordTooMany);
+    let word = next_word(words)?;
+    match words.next() {
+        None => Ok(word),
+        Some(_) => Err(Complaint::WordTooMany),
     }
-    Ok(word)
+}
+
+// The bytes that the rest of the words write, joined.
+fn hex_words(heap: Global, words: &mut SplitWhitespace<'_>) -> Result<Vec<u8>, Complaint> {
+    let mut bytes = Vec::new(heap);
+    for word in words {
+        push_hex(&mut bytes, word.as_bytes())?;
+    }
+    Ok(bytes)
 }
 
 // Puts a value where there is none yet; on a complaint the place stands as before.
-fn settle<T: Drop>(place: &mut Option<T>, value: Option<T>) -> Result<(), Complaint>
-    ensures { MatchResult result (λ _. Settled place.old value place.new) (λ _. place.new ≡ place.old) }
+fn settle<T: Drop>(place: &mut Option<T>, value: Result<T, UnknownName>) -> Result<(), Complaint>
+    ensures { MatchResult result (λ _. Settled place.old (result_ok value) place.new) (λ _. place.new ≡ place.old) }
 {
     if place.is_some() {
         return Err(Complaint::Twice);
     }
-    if value.is_none() {
-        return Err(Complaint::UnknownName);
-    }
-    *place = value;
+    *place = Some(value?);
     Ok(())
 }
 
@@ -63,20 +60,11 @@ fn settle<T: Drop>(place: &mut Option<T>, value: Option<T>) -> Result<(), Compla
 fn limit_of(word: &str) -> Result<usize, Complaint>
     ensures { IfOk result (λ n. (1 ≤ n) × (n ≤ 16384)) }
 {
-    match word.parse::<usize>() {
-        Ok(n) if n >= 1 && n <= 16384 => Ok(n),
-        Ok(_) => Err(Complaint::LimitRange),
-        Err(_) => Err(Complaint::NotANumber),
-    }
-}
-
-fn index_of(word: Option<&str>) -> Result<u16, Complaint> {
-    let Some(word) = word else {
-        return Err(Complaint::WordMissing);
-    };
-    match word.parse::<u16>() {
-        Ok(n) => Ok(n),
-        Err(_) => Err(Complaint::NotANumber),
+    let limit = word.parse()?;
+    if (1..=16384).contains(&limit) {
+        Ok(limit)
+    } else {
+        Err(Complaint::LimitRange)
     }
 }
 
@@ -104,10 +92,8 @@ impl Draft {
         words: &mut SplitWhitespace<'_>,
     ) -> Result<(), Complaint> {
         let bytes = hex_words(heap, words)?;
-        match Commitment::try_from(bytes.as_slice()) {
-            Ok(commitment) => settle(&mut self.commitment, Some(commitment)),
-            Err(malformed) => Err(Complaint::Commitment(malformed)),
-        }
+        let commitment = Commitment::try_from(bytes.as_slice())?;
+        settle(&mut self.commitment, Ok(commitment))
     }
 
     fn take_shard(
@@ -116,11 +102,8 @@ impl Draft {
         line: usize,
         words: &mut SplitWhitespace<'_>,
     ) -> Result<(), Complaint> {
-        let index = index_of(words.next())?;
-        let Some(name) = words.next() else {
-            return Err(Complaint::WordMissing);
-        };
-        let sender = String::from_str(heap, name)?;
+        let index = next_word(words)?.parse()?;
+        let sender = String::from_str(heap, next_word(words)?)?;
         let bytes = hex_words(heap, words)?;
         self.arrivals.push(Arrival {
             line,
@@ -138,10 +121,10 @@ impl Draft {
             return Ok(());
         };
         match keyword {
-            "hash" => settle(&mut self.hash, HashChoice::from_name(only(&mut words)?)),
-            "scheme" => settle(&mut self.scheme, SchemeChoice::from_name(only(&mut words)?)),
-            "kind" => settle(&mut self.kind, KindChoice::from_name(only(&mut words)?)),
-            "limit" => settle(&mut self.limit, Some(limit_of(only(&mut words)?)?)),
+            "hash" => settle(&mut self.hash, only(&mut words)?.parse()),
+            "scheme" => settle(&mut self.scheme, only(&mut words)?.parse()),
+            "kind" => settle(&mut self.kind, only(&mut words)?.parse()),
+            "limit" => settle(&mut self.limit, Ok(limit_of(only(&mut words)?)?)),
             "commitment" => self.take_commitment(heap, &mut words),
             "shard" => self.take_shard(heap, line, &mut words),
             _ => Err(Complaint::UnknownWord),

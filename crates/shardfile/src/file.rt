@@ -1,9 +1,15 @@
 // What a shard file holds, and what can be wrong with one.
+ghost use Rattle.std.specs.Prelude.{◌≡◌};
+ghost use Rattle.shardfile.specs.declared.file.Complaint.TheVariants.{Memory};
+
 use choice::hashes::HashChoice;
 use choice::kinds::KindChoice;
+use choice::names::UnknownName;
 use choice::schemes::SchemeChoice;
 use register::commitment::{Commitment, Malformed};
 use std::alloc::{AllocError, AllocFailed};
+use std::num::ParseIntError;
+use thiserror::Error;
 
 // A shard as it came: the line that tells of it, its index, who sent it, its bytes.
 #[derive(Drop)]
@@ -25,35 +31,67 @@ pub struct ShardFile {
 }
 
 // What is wrong with a line.
-#[derive(Clone, Copy, Debug)]
+#[derive(Clone, Copy, Debug, Error)]
 pub enum Complaint {
+    #[error("no line begins so: hash, scheme, kind, limit, commitment or shard is expected")]
     UnknownWord,
+    #[error("a word is missing")]
     WordMissing,
+    #[error("a word too many")]
     WordTooMany,
-    UnknownName,
+    #[error("no such name: `covasluk --help` lists them")]
+    UnknownName(#[from] UnknownName),
+    #[error("not hexadecimal digits in pairs")]
     NotHex,
+    #[error("not a number that fits: an index goes up to 65535")]
     NotANumber,
+    #[error("the limit is 1 to 16384")]
     LimitRange,
-    Commitment(Malformed),
+    #[error("{}", malformed(.0))]
+    Commitment(#[from] Malformed),
+    #[error("this was given before")]
     Twice,
+    #[error("the file ends with no commitment")]
     NoCommitment,
+    #[error("out of memory")]
     Memory,
 }
 
 // The line, counted from 1, and what is wrong with it.
-#[derive(Clone, Copy, Debug)]
+#[derive(Clone, Copy, Debug, Error)]
+#[error("line {line}: {complaint}")]
 pub struct LineFault {
     pub line: usize,
     pub complaint: Complaint,
 }
 
+fn malformed(commitment: &Malformed) -> &'static str {
+    match commitment {
+        Malformed::Length => "a commitment has 100 bytes",
+        Malformed::ZeroMinimum => "the commitment's minimum is zero",
+        Malformed::ZeroExtra => "the commitment's extra is zero",
+    }
+}
+
+// By hand: a `ParseIntError` is no `Copy`, so no case of a complaint can hold it.
+impl From<ParseIntError> for Complaint {
+    fn from(_error: ParseIntError) -> Complaint {
+        Complaint::NotANumber
+    }
+}
+
+// These two by hand: a derived `From` does not say which complaint it makes, and `push_hex` does.
 impl From<AllocError> for Complaint {
+    ghost from_gives = { λ _ complaint. complaint ≡ Memory };
+
     fn from(_error: AllocError) -> Complaint {
         Complaint::Memory
     }
 }
 
 impl<T: Drop> From<AllocFailed<T>> for Complaint {
+    ghost from_gives = { λ _ complaint. complaint ≡ Memory };
+
     fn from(_refused: AllocFailed<T>) -> Complaint {
         Complaint::Memory
     }

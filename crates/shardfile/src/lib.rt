@@ -5,4 +5,3 @@ pub mod draft;
 pub mod file;
 pub mod hex;
 pub mod parse;
-pub mod show;

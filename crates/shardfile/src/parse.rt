@@ -18,9 +18,7 @@ fn finish(draft: Draft) -> Result<ShardFile, Complaint> {
         commitment,
         arrivals,
     } = draft;
-    let Some(commitment) = commitment else {
-        return Err(Complaint::NoCommitment);
-    };
+    let commitment = commitment.ok_or(Complaint::NoCommitment)?;
     Ok(ShardFile {
         hash: hash.unwrap_or(HashChoice::Sha256),
         scheme: scheme.unwrap_or(SchemeChoice::Copy),
@@ -34,21 +32,14 @@ fn finish(draft: Draft) -> Result<ShardFile, Complaint> {
 // The first line that cannot be read is told by its number and what is wrong with it.
 pub fn parse(heap: Global, text: &str) -> Result<ShardFile, LineFault> {
     let mut draft = Draft::new(heap);
-    let mut last = 0usize;
-    for (i, line) in text.lines().enumerate() {
-        last = i.saturating_add(1);
-        if let Err(complaint) = draft.take_line(heap, last, line) {
-            return Err(LineFault {
-                line: last,
-                complaint,
-            });
-        }
+    for (i, words) in text.lines().enumerate() {
+        let line = i + 1;
+        draft
+            .take_line(heap, line, words)
+            .map_err(|complaint| LineFault { line, complaint })?;
     }
-    match finish(draft) {
-        Ok(file) => Ok(file),
-        Err(complaint) => Err(LineFault {
-            line: last,
-            complaint,
-        }),
-    }
+    finish(draft).map_err(|complaint| LineFault {
+        line: text.lines().count(),
+        complaint,
+    })
 }

@@ -1,5 +1,5 @@
 use Rattle.examine.proofs.Examining.{examined, is_given}
-use Rattle.examine.proofs.file.check_and_open.Goals as goal
+use Rattle.examine.proofs.check_and_open.Goals as goal
 
 pub unwrap-requires : goal.unwrap-requires
 unwrap-requires c =
