@@ -1,7 +1,6 @@
 -- A shard call carries the record of a commitment on; a member's good shard at its own index has then contributed.
 use Rattle.std.proofs.Common.{◌≡◌, ℕ, Bool, true, false, cond, List, [], ◌∷◌, is_some, Some, Option, sym, ap, ◌∙◌, subst, arith}
-use Rattle.std.proofs.lemmas.Bool.{both_ways, cond_both}
-use Rattle.std.proofs.lemmas.Option.{same_Some}
+use Rattle.std.proofs.lemmas.Bool.{cond_both}
 use Rattle.register.specs.Order.{order}
 use Rattle.rosters.specs.Sound.{index}
 use Rattle.scheme.specs.Pieces.{Indexed}
@@ -69,8 +68,7 @@ module _ (limits : Limits) (m : Meaning) (a : Assignment) (c : List ℕ) (ep : �
         let gets : index peer (a.keys ep) ≡ Some x.index → good_here limits m a c ep Hand x ≡ true → GivenTo (advanced j) x.index = λ place good. advanced-gives j x.index (one.gets place good) in
         let both = subst (λ n. Grown limits m a c ep Hand live.lost r (advanced (taken limits m roster ks n (began r) (record { sender = peer; shard = x }))) × (index peer (a.keys ep) ≡ Some x.index → good_here limits m a c ep Hand x ≡ true → GivenTo (advanced (taken limits m roster ks n (began r) (record { sender = peer; shard = x }))) x.index)) (sym in_epoch_now) (grown, gets) in
         next limits m a c ep Hand es (event limits m a c ep Hand roster bring s es answer) r (advanced i) live live.lost both.0 live.losses (omega arith) (λ is. absurd is)
-        (λ k' y counts brings place good.
-        grind arith))
+        (λ k' y counts brings place good. grind arith))
 
     pub shard_here : FineHere (shard_of limits m roster c peer x s)
     unfolding shard_of
@@ -79,9 +77,8 @@ module _ (limits : Limits) (m : Meaning) (a : Assignment) (c : List ℕ) (ep : �
         (λ none. boxing (λ r at. cc))
         (λ r at.
         cond_both (by_phase r.phase false r.verified) (stays limits m roster Ignored s) (in_epoch limits m roster (roster.keys r.round.epoch.0) (known_shard limits m roster peer x r s) s) FineHere
-        (λ whole. grind (arith, unchanged, same_Some, ignored_gives))
-        (λ _.
-        grind (arith, unchanged, same_Some, both_ways, found_key, boxing, known, timely, taking)))
+        (λ whole. grind (arith, unchanged, ignored_gives))
+        (λ _. grind (arith, unchanged, found_key, boxing, known, timely, taking)))
 
   -- a shard for another commitment
   pub shard_there : (d : List ℕ) → (d ≡ c → ⊥) → Fine limits m a c ep Hand roster (shard d peer x rooms) s es (shard_of limits m roster d peer x s)

@@ -2,7 +2,6 @@
 use Rattle.std.proofs.Common.{◌≡◌, ℕ, true, List, [], ◌∷◌, is_some, Some, None, Option, sym, ap, ◌∙◌, subst, ⊎_elim, arith}
 use Rattle.std.proofs.lemmas.Slice.Eq.{bytes_eq-Decides}
 use Rattle.std.proofs.lemmas.Bool.{cases_Bool, iff_false}
-use Rattle.std.proofs.lemmas.Option.{same_Some}
 use Rattle.std.specs.List.{AllByRecursion}
 use Rattle.std.specs.Str.{bytes_eq}
 use Rattle.register.specs.Order.{order}
@@ -82,8 +81,7 @@ module _ (limits : Limits) (m : Meaning) (a : Assignment) (c : List ℕ) (ep : �
         record {
           boxes = boxes;
           ascend = replaced_ascends filed_under x s.records up;
-          moved = λ r now in_epoch_now.
-              grind (arith, same_Some, known);
+          moved = λ r now in_epoch_now. grind arith;
         }
 
     -- a record that comes in
@@ -96,8 +94,7 @@ module _ (limits : Limits) (m : Meaning) (a : Assignment) (c : List ℕ) (ep : �
         record {
           boxes = boxes;
           ascend = (entry_laws filed_under).put_ascends x s.records up;
-          moved = λ r now in_epoch_now.
-              grind (arith, same_Some);
+          moved = λ r now in_epoch_now. grind arith;
         }
 
     -- a record of another commitment, replaced or let in

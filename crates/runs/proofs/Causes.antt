@@ -52,8 +52,7 @@ module _ (limits : Limits) (m : Meaning) (a : Assignment) (h : List Event) (k : 
             let got : Received limits m a H A c e x = all_look nat_cmp index_of (Received limits m a H A c e) s.index w.received x at (subst (Holds limits m a H A c e r.contributed) early fine.holds).received in
             let place : x.index ≡ s.index = found_exactly nat_cmp index_of number_laws number_same s.index w.received x at in
             let theirs : got.sender ≡ k → good_for m limits.blob c x ≡ true = λ who. blameless.good c e x fine.announced (subst (λ j. H c j x) who got.handed) in
-            let good : good_for m limits.blob c x ≡ true =
-            grind (arith, got.cause, index_same got.sender k (a.keys e) x.index, theirs, blameless.placed c e s fine.announced (mine same)) in
+            let good : good_for m limits.blob c x ≡ true = grind (arith, got.cause, index_same got.sender k (a.keys e) x.index, theirs, blameless.placed c e s fine.announced (mine same)) in
             let one : x ≡ s =
             blameless.alike c x s
             (record { good = good; sender = got.sender; handed = got.handed })

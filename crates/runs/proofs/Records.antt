@@ -147,8 +147,7 @@ module _ (limits : Limits) (m : Meaning) (a : Assignment) (H : List ℕ → List
         record {
           announced = fine.announced;
           long = length-set r.contributed s.index true ∙ long;
-          own = λ i is _.
-              grind (arith, assigned_at, get_or-set_same);
+          own = λ i is _. grind (arith, assigned_at, get_or-set_same);
           holds =
               joined_holds r.commitment r.round.epoch.0 r.contributed s long (omega arith) down r.phase
               (record { good = good; below = within s.index l; sender = sender; handed = handed }) fine.holds;
@@ -163,8 +162,7 @@ module _ (limits : Limits) (m : Meaning) (a : Assignment) (H : List ℕ → List
           announced = fine.announced;
           long = length-set r.contributed s.index true ∙ long;
           own = λ i is seen. own_stays i (fine.own i) is seen;
-          holds =
-              grind (arith, pends);
+          holds = grind (arith, pends);
         }
 
     -- a shard that waits is at its sender's index, which is not this node's
@@ -181,8 +179,7 @@ module _ (limits : Limits) (m : Meaning) (a : Assignment) (H : List ℕ → List
           equivocates = λ _ _ _ _ _. fine;
           bad = λ _. fine;
           verified = λ place at class down _ good. verifies_fine place at class down good;
-          waiting = λ place w at early _ down class.
-              grind (arith, waits_placed, waits_fine);
+          waiting = λ place w at early _ down class. grind (arith, waits_placed, waits_fine);
         })
 
   -- a job that starts takes shards over as they are
@@ -253,8 +250,7 @@ module _ (limits : Limits) (m : Meaning) (a : Assignment) (H : List ℕ → List
         checked = all_append (Checked c e) w.checked shards h.checked (passing_checked c e j (out_of c e flags (awaiting w) j out h));
         pending = h.pending;
         job = tt;
-        once = λ i.
-            grind (arith, tally_append, passing_once);
+        once = λ i. grind (arith, tally_append, passing_once);
       }
   returned_holds c e flags (cached blob) j out h = h
 

@@ -47,8 +47,7 @@ module _ (limits : Limits) (m : Meaning) (roster : Roster) (s : State) (Q : Step
         (λ _ _.
         by_option (λ o. Q (discovered_by limits m roster c leader round s o)) (record_of c s)
         (λ none. grind (arith, entering))
-        (λ r at.
-        grind (arith, leading))))
+        (λ r at. grind (arith, leading))))
 
     pub notarization_ways : Q (notarization_of limits m roster c round s)
     unfolding notarization_of
@@ -57,8 +56,7 @@ module _ (limits : Limits) (m : Meaning) (roster : Roster) (s : State) (Q : Step
         (λ none.
         by_option (λ o. Q (in_epoch limits m roster o (λ _. enters limits m roster c round None s) s)) (roster.keys round.epoch.0)
         (λ _. ways.still NoEpoch refl) (λ keys known. entering None none (ap is_some known)))
-        (λ r at.
-        grind arith)
+        (λ r at. grind arith)
 
   -- a shard from a peer
   pub record ShardWays (c peer : List ℕ) (x : Indexed) : Type 0 where
