@@ -1,9 +1,17 @@
-use Rattle.std.proofs.Common.{◌≡◌, ◌+◌, ◌-◌, length, drop, sym, refl, ap, ◌∙◌, arith, length-drop, length-take, rules}
+use Rattle.std.proofs.Common.{◌≡◌, ◌+◌, ◌-◌, length, drop, take, sym, refl, ap, ◌∙◌, arith, length-drop, length-take, rules}
 use borrow.Rule.Slice.PartMut.{put_mid, same_len_mid}
+use Rattle.std.specs.Cmp.Lexicographic.{slice_cmp}
+use Rattle.std.specs.Ordering.{nat_cmp}
+use Rattle.register.specs.ByteOrder.{slice_order}
+use Rattle.register.specs.declared.key.Key.{Key}
 use Rattle.table.specs.Table.{put}
 use Rattle.record.specs.Fields.{by_sender, sender_named}
 use Rattle.record.proofs.Parting.{behind_front, behind_part, front-stays, part_front}
 use Rattle.record.proofs.record.Record.join_pending.Goals as goal
+
+-- the derived order of keys is that of their bytes
+derived : (λ (a b : Key). slice_cmp nat_cmp a.bytes b.bytes) ≡ by_sender
+derived = λ i a b. slice_order a.bytes b.bytes i
 
 pub returns : goal.returns
 returns c =
@@ -17,7 +25,7 @@ returns c =
     record {
       stays = refl;
       job = front-stays a (64 - a) xs ys (omega arith);
-      table = behind_front a (64 - a) xs ys (omega arith) c.file.result (omega (arith, c.file.ensures.count)) ∙ c.file.ensures.table ∙ ap (put by_sender sender_named (record { sender = c.args.sender.now; shard = c.args.stored })) (part_front a (64 - a) n xs (omega arith));
+      table = behind_front a (64 - a) xs ys (omega arith) c.file.result (omega (arith, c.file.ensures.count)) ∙ c.file.ensures.table ∙ ap (put (λ (p q : Key). slice_cmp nat_cmp p.bytes q.bytes) sender_named (record { sender = c.args.sender.now; shard = c.args.stored })) (part_front a (64 - a) n xs (omega arith)) ∙ ap (λ o. put o sender_named (record { sender = c.args.sender.now; shard = c.args.stored }) (drop a (take n xs))) derived;
       count = (omega (arith, c.file.ensures.count), omega (arith, c.file.ensures.count));
       behind = ap (λ m. drop m (put_mid a (64 - a) xs ys)) on ∙ behind_part a (64 - a) xs ys (omega arith) (n - a + 1) (omega arith) (simp (length-take, length-drop) (omega arith)) c.file.ensures.behind ∙ ap (λ m. drop m xs) (sym on);
       long = same_len_mid a (64 - a) xs ys c.file.auto.entries;
