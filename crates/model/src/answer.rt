@@ -2,7 +2,7 @@
 use reconstruct::error::Error;
 
 // How a call ended; a completion tells its number.
-#[derive(Clone, Copy)]
+#[derive(Clone, Copy, PartialEq, Eq, Debug)]
 pub enum Outcome {
     NoEpoch,
     NoMember,

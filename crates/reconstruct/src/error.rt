@@ -5,7 +5,7 @@ ghost use Rattle.reconstruct.specs.declared.error.Error.TheVariants.{Blob, Codin
 use block::blob::Misfit;
 use scheme::fault::Fault;
 
-#[derive(Clone, Copy)]
+#[derive(Clone, Copy, Debug, PartialEq, Eq)]
 pub enum Error {
     Coding(Fault),
     Blob(Misfit),

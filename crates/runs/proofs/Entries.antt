@@ -3,14 +3,15 @@ use Rattle.std.proofs.Common.{◌≡◌, ℕ, suc, ◌<◌, ◌≤◌, ltb, List
 use Rattle.std.proofs.lemmas.Bool.{cond_both, ltb-false, ltb-true}
 use Rattle.std.proofs.lemmas.Bool.Decides.{nat_tests}
 use Rattle.std.proofs.lemmas.List.{length-map}
+use Rattle.std.specs.Cmp.{IsTotalOrder, nat_cmp_total}
 use Rattle.std.specs.Option.{option_map}
 use Rattle.std.specs.List.{AllByRecursion}
-use Rattle.register.specs.ByteOrder.{order_ascends, order_reverses, order_same, order_ties}
+use Rattle.register.specs.ByteOrder.{order_same, order_total}
 use Rattle.register.specs.Order.{order}
 use Rattle.register.specs.declared.counters.Round.{Round}
 use Rattle.table.proofs.Carried.{all_without, length-without, map-without}
 use Rattle.table.proofs.Lawful.{all_looks, changed_ascends, changed_others, changed_own, found_exactly, table_laws}
-use Rattle.table.proofs.Orders.{Lawful, by_order}
+use Rattle.table.proofs.Orders.{by_order}
 use Rattle.table.specs.Laws.{Ascends, Laws, look}
 use Rattle.table.specs.Table.{changed, without}
 use Rattle.model.specs.Window.{leaves, lower_of, lowest, trimmed}
@@ -22,11 +23,11 @@ by_option P None n s = n refl
 by_option P (Some x) n s = s x refl
 
 -- the order of byte strings, and that of numbers
-pub byte_laws : Lawful order
-byte_laws = record { reverses = order_reverses; ascends = order_ascends; ties = order_ties }
+pub byte_laws : IsTotalOrder order
+byte_laws = order_total
 
-pub number_laws : Lawful nat_cmp
-number_laws = grind (arith, nat_tests)
+pub number_laws : IsTotalOrder nat_cmp
+number_laws = nat_cmp_total
 
 pub number_same : (a b : ℕ) → nat_cmp a b ≡ Equal → a ≡ b
 number_same a b h = grind (arith, nat_tests)
