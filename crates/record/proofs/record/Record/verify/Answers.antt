@@ -1,9 +1,7 @@
-use Rattle.std.proofs.Common.{◌≡◌, ℕ, ◌+◌, ◌<◌, true, List, length, take, set, sym, ap, ◌∙◌, subst}
+use Rattle.std.proofs.Common.{◌≡◌, ◌+◌, true, length, set, ap, ◌∙◌}
 use Rattle.scheme.specs.Pieces.{indexed}
-use Rattle.table.specs.Table.{put}
-use Rattle.record.specs.Fields.{by_index, index_named, with_checked, with_received, with_verified}
-use Rattle.record.specs.Sound.{Sound}
-use Rattle.record.specs.Views.{memory, view}
+use Rattle.record.specs.Fields.{with_checked, with_received, with_verified}
+use Rattle.record.specs.Views.{memory}
 use Rattle.record.specs.declared.record.Record.{Record}
 use Rattle.record.specs.declared.stored.Stored.{Stored}
 use Rattle.record.proofs.Counting.{room_received, room_checked}
@@ -38,7 +36,7 @@ returns c =
     let whole = joins ∙ ap (λ (s : Stored). with_checked (set r.checked r.checked_count s) (r.checked_count + 1) (with_verified (with_received k.received k.received_count (set r.contributed c.args.shard.index true) r))) is in
     let table = rw is at c.keep-stored.ensures.table in
     let long : length k.received ≡ 64 = c.keep-stored.ensures.long ∙ o.sound.received_room in
-        record {
+    record {
       verifies = λ size blobs filed. rw whole (checks-view c.args.slot.width c.args.shard.index c.args.shard.bytes.now r o c.args.slot.number c.args.shards.now c.keep-stored.new.shards size blobs c.keep-stored.ensures.written c.keep-stored.ensures.others k.received k.received_count c.if-self.false table filed);
       sound = rw whole (checks-sound c.args.slot.width c.args.shard.index c.args.shard.bytes.now r o c.args.slot.number c.args.shards.now c.keep-stored.new.shards 0 c.args.shards.now c.keep-stored.ensures.written c.keep-stored.ensures.others k.received k.received_count c.if-self.false table long c.keep-stored.ensures.count);
       job = record { out = ap (λ (x : Record). x.job) whole; checked = ap (λ (x : Record). x.job_checked) whole; pending = ap (λ (x : Record). x.job_pending) whole };

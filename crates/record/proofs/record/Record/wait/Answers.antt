@@ -1,10 +1,6 @@
-use Rattle.std.proofs.Common.{◌≡◌, ◌+◌, ◌<◌, ◌≤◌, length, take, drop, sym, ap, ◌∙◌, subst}
-use Rattle.table.specs.Table.{put}
-use Rattle.record.specs.Fields.{by_index, by_sender, index_named, sender_named, with_pending}
-use Rattle.record.specs.Sound.{Sound}
-use Rattle.record.specs.Views.{memory, view}
+use Rattle.std.proofs.Common.{◌≡◌, length, ap, ◌∙◌}
+use Rattle.record.specs.Fields.{with_pending}
 use Rattle.record.specs.declared.record.Record.{Record}
-use Rattle.record.specs.declared.stored.Stored.{Stored}
 use Rattle.record.proofs.Counting.{room_received, room_pending}
 use Rattle.record.proofs.Joined.{waits-sound, waits-view}
 use Rattle.record.proofs.Joining.{elsewhere}

@@ -1,10 +1,8 @@
-use Rattle.std.proofs.Common.{get_or, set, sym, ap, ◌∙◌, subst}
+use Rattle.std.proofs.Common.{get_or, set, ap, ◌∙◌}
 use Rattle.model.specs.State.{larger}
-use Rattle.record.specs.Sound.{Rooms}
 use Rattle.record.specs.Views.{memory}
 use Rattle.shelf.proofs.Lending.{fine_at_round, lent_whole, lent_is, lent_rooms, rooms_at_round}
 use Rattle.shelf.specs.Views.{blank, nothing, shelf_of}
-use Rattle.shelf.specs.Whole.{Fine}
 use Rattle.shelf.proofs.shelf.Shelf.observe.Goals as goal
 
 pub returns-clause-records : goal.returns-clause-records
