@@ -1,7 +1,7 @@
 -- The payloads of a blob, and that their shards are good. Assumes nothing.
 use Rattle.std.proofs.Common.{◌≡◌, ℕ, suc, ◌+◌, ◌*◌, ◌^◌, ◌<◌, ◌≤◌, true, List, [], ◌∷◌, length, get_or, take, drop, sym, ap, ◌∙◌, subst, ⊎_elim, suc-mul, zero-add, arith, length-append, length-take-le, eq-eqb, le-leb}
-use lib.Bits.{bit_xor, xor_self}
-use lib.Seq.{get_or_at}
+use Rattle.std.specs.Int.Bits.{bit_xor, xor_self}
+use Rattle.std.proofs.Math.Seq.{get_or_at}
 use Rattle.std.proofs.lemmas.Nat.{mul-le}
 use Rattle.std.proofs.lemmas.List.FromFn.{get_or-map-range_with_len, length-map-range_with_len}
 use Rattle.std.proofs.lemmas.List.{get_or_append_left, length-drop}

@@ -1,15 +1,17 @@
 -- Reading the framed blob in picks of one length by position. Assumes nothing.
-use Rattle.std.proofs.Common.{◌≡◌, ℕ, zero, suc, ◌+◌, ◌-◌, ◌*◌, ◌/◌, ◌%◌, ◌<◌, ◌≤◌, true, false, ◌||◌, eqb, List, [], ◌∷◌, ◌++◌, map, length, get_or, take, drop, set, sym, ap, ◌∙◌, subst, ⊎_elim, le_of_suc-le-suc, mul-zero, zero-add, arith, length-take-le, take-add, eq-eqb, ne_eqb}
+use Rattle.std.proofs.Common.{◌≡◌, ℕ, zero, suc, ◌+◌, ◌-◌, ◌*◌, ◌/◌, ◌%◌, ◌<◌, ◌≤◌, Bool, Bor, true, false, ◌&&◌, ◌||◌, eqb, List, [], ◌∷◌, ◌++◌, map, length, get_or, take, drop, sym, ap, ◌∙◌, subst, ⊎_elim, le_of_suc-le-suc, mul-zero, zero-add, arith, length-take-le, take-add}
 use borrow.Rule.Slice.PartMut.{put_mid}
-use lib.Seq.{paste}
+use Rattle.std.proofs.Math.Seq.{paste}
 use Rattle.std.proofs.lemmas.Nat.{div-add-mod', div_below, mod_below}
-use Rattle.std.proofs.lemmas.List.Edits.{drop-paste, fill_by_more, take-paste}
+use Rattle.std.proofs.lemmas.List.Edits.{drop-paste, take-paste}
 use Rattle.std.proofs.lemmas.List.FromFn.{fill_by_all, get_or-map-range_with_len, length-map-range_with_len}
 use Rattle.std.proofs.lemmas.List.{append_assoc, at_drop_all, at_drop_more, drop-drop, drop-take, take-take, get_or-drop, get_or-map, get_or-take, length-drop, length-map}
 use Rattle.std.proofs.lemmas.Bool.{and_parts, cases_Bool, cond-false, cond-true, eqb-true}
-use Rattle.std.specs.List.{range_with_len}
+use Rattle.std.specs.List.{list_all, range_with_len}
 use Rattle.tree.proofs.Joining.{Level, getD_joined, length-joined, part_joined}
 use Rattle.tree.specs.Frames.{zeros}
+use Rattle.parity.specs.declared.framing.Framing.{Framing}
+use Rattle.parity.specs.Framings.{framed_in, size}
 use Rattle.parity.specs.Parities.{empty, even, framing, mended, xored}
 
 pub positive : (s i n : ℕ) → i < n * s → 0 < s
@@ -85,63 +87,70 @@ counted_part f s a n h =
     ∙ get_or-drop a (map f (range_with_len 0 s)) k 0
     ∙ get_or-map-range_with_len f 0 s (a + k) (a + k) 0 (omega arith) (zero-add (a + k)))
 
-module _ {X : Type 0} (f : X → List ℕ) (xs : List X) (s i : ℕ) (e : even s (map f xs) ≡ true) (h : i < (length xs - 1) * s) where
-  within : i < (length (map f xs) - 1) * s
+pub length-framed_in : (f : Framing) → length (framed_in f) ≡ size f
+length-framed_in f = length-framing f.width (map (λ x. x.now) f.picks.now) f.evened ∙ simp length-map
+
+-- the pick that a byte is in
+module _ (f : Framing) (i : ℕ) (h : i < size f) where
+  abbrev lists : List (List ℕ)
+  lists = map (λ x. x.now) f.picks.now
+
+  within : i < (length lists - 1) * f.width
   within = simp length-map h
 
-  pub byte-index : i / s < length xs
-  byte-index = omega (arith, piece s (map f xs) e i within, length-map xs f)
+  pub byte-index : i / f.width < length f.picks.now
+  byte-index = omega (arith, piece f.width lists f.evened i within, length-map f.picks.now (λ x. x.now))
 
-  at : (z : X) → get_or (map f xs) (i / s) [] ≡ f (get_or xs (i / s) z)
-  at z = get_or-map f xs (i / s) z [] byte-index
+  at : (z : Bor (List ℕ)) → get_or lists (i / f.width) [] ≡ (get_or f.picks.now (i / f.width) z).now
+  at z = get_or-map (λ x. x.now) f.picks.now (i / f.width) z [] byte-index
 
-  pub byte_void : (z : X) (r : ℕ) → true ≡ empty (f (get_or xs (i / s) z)) → r ≡ xored (i % s) (map f xs) → r ≡ get_or (framing s (map f xs)) i 0
-  byte_void z r t q = q ∙ at_void s (map f xs) e i within (ap empty (at z) ∙ sym t)
+  pub byte_void : (z : Bor (List ℕ)) (r : ℕ) → true ≡ empty (get_or f.picks.now (i / f.width) z).now → r ≡ xored (i % f.width) lists → r ≡ get_or (framed_in f) i 0
+  byte_void z r t q = q ∙ at_void f.width lists f.evened i within (ap empty (at z) ∙ sym t)
 
-  pub byte_full : (z : X) (r : ℕ) → false ≡ empty (f (get_or xs (i / s) z)) → r ≡ get_or (f (get_or xs (i / s) z)) (i % s) 0 → r ≡ get_or (framing s (map f xs)) i 0
+  pub byte_full : (z : Bor (List ℕ)) (r : ℕ) → false ≡ empty (get_or f.picks.now (i / f.width) z).now → r ≡ get_or (get_or f.picks.now (i / f.width) z).now (i % f.width) 0 → r ≡ get_or (framed_in f) i 0
   byte_full z r t q =
-      q ∙ ap (λ (p : List ℕ). get_or p (i % s) 0) (sym (at z)) ∙ at_full s (map f xs) e i within (ap empty (at z) ∙ sym t)
+      q ∙ ap (λ (p : List ℕ). get_or p (i % f.width) 0) (sym (at z)) ∙ at_full f.width lists f.evened i within (ap empty (at z) ∙ sym t)
 
-pub framing_long : {X : Type 0} (f : X → List ℕ) (xs : List X) (s : ℕ) → even s (map f xs) ≡ true → length (framing s (map f xs)) ≡ (length xs - 1) * s
-framing_long f xs s e = length-framing s (map f xs) e ∙ simp length-map
-
--- a loop that looks for a byte other than 0
-module _ (bytes : List ℕ) (start i : ℕ) (e : zeros (drop i bytes) ≡ zeros (drop start bytes)) where
-  pub zeros_more : (b : ℕ) → i < length bytes → b ≡ get_or bytes i 0 → b ≡ 0 → zeros (drop (i + 1) bytes) ≡ zeros (drop start bytes)
-  zeros_more b h q n = sym (at_drop_more zeros bytes i 0 h ∙ simp (eq-eqb (get_or bytes i 0) 0 (sym q ∙ n))) ∙ e
-
-  pub zeros_not : (b : ℕ) → i < length bytes → b ≡ get_or bytes i 0 → (b ≡ 0 → ⊥) → false ≡ zeros (drop start bytes)
-  zeros_not b h q n = sym (at_drop_more zeros bytes i 0 h ∙ simp (ne_eqb (get_or bytes i 0) 0 (λ z. n (q ∙ z)))) ∙ e
-
-  pub zeros_all : length bytes ≤ i → true ≡ zeros (drop start bytes)
-  zeros_all h = sym (at_drop_all zeros bytes i h) ∙ e
+-- a test of each byte from a on
+pub zeros_over : (bytes : List ℕ) (a n : ℕ) → a + n ≡ length bytes → list_all (λ i. eqb (get_or bytes i 0) 0) (range_with_len a n) ≡ zeros (drop a bytes)
+zeros_over bytes a zero e = sym (at_drop_all zeros bytes a (omega arith))
+zeros_over bytes a (suc n) e =
+    ap (λ (z : Bool). eqb (get_or bytes a 0) 0 && z) (zeros_over bytes (a + 1) n (omega arith))
+    ∙ sym (at_drop_more zeros bytes a 0 (omega arith))
 
 -- a run inside one piece
-module _ {X : Type 0} (f : X → List ℕ) (xs : List X) (s i n : ℕ) (e : even s (map f xs) ≡ true) (h : i < (length xs - 1) * s) (r : i % s + n ≤ s) where
-  lies : take n (drop i (framing s (map f xs))) ≡ take n (drop (i % s) (mended s (map f xs) (get_or (map f xs) (i / s) [])))
-  lies = run_is s (map f xs) e i (within f xs s i e h) n r
+module _ (f : Framing) (i n : ℕ) (h : i < size f) (r : i % f.width + n ≤ f.width) where
+  abbrev others : List (List ℕ)
+  others = map (λ x. x.now) f.picks.now
 
-  pub run_full : (z : X) (out : List ℕ) → false ≡ empty (f (get_or xs (i / s) z)) → out ≡ take n (drop (i % s) (f (get_or xs (i / s) z))) → out ≡ take n (drop i (framing s (map f xs)))
-  run_full z out t q =
-      let g : get_or (map f xs) (i / s) [] ≡ f (get_or xs (i / s) z) = at f xs s i e h z in
-      let m : mended s (map f xs) (get_or (map f xs) (i / s) []) ≡ f (get_or xs (i / s) z) = ap (mended s (map f xs)) g ∙ cond-false (empty (f (get_or xs (i / s) z))) (map (λ i. xored i (map f xs)) (range_with_len 0 s)) (f (get_or xs (i / s) z)) (sym t) in
-      q ∙ sym (lies ∙ ap (λ (p : List ℕ). take n (drop (i % s) p)) m)
+  lies : take n (drop i (framed_in f)) ≡ take n (drop (i % f.width) (mended f.width others (get_or others (i / f.width) [])))
+  lies = run_is f.width others f.evened i (within f i h) n r
 
-  pub run_void : (z : X) (out : List ℕ) → true ≡ empty (f (get_or xs (i / s) z)) → out ≡ map (λ k. xored (i % s + k) (map f xs)) (range_with_len 0 n) → out ≡ take n (drop i (framing s (map f xs)))
+  -- the piece at hand, by whether it is there
+  piece_full : (z : Bor (List ℕ)) → false ≡ empty (get_or f.picks.now (i / f.width) z).now → mended f.width others (get_or others (i / f.width) []) ≡ (get_or f.picks.now (i / f.width) z).now
+  piece_full z t =
+      let p = (get_or f.picks.now (i / f.width) z).now in
+      ap (mended f.width others) (at f i h z) ∙ cond-false (empty p) (map (λ i. xored i others) (range_with_len 0 f.width)) p (sym t)
+
+  piece_void : (z : Bor (List ℕ)) → true ≡ empty (get_or f.picks.now (i / f.width) z).now → mended f.width others (get_or others (i / f.width) []) ≡ map (λ i. xored i others) (range_with_len 0 f.width)
+  piece_void z t =
+      let p = (get_or f.picks.now (i / f.width) z).now in
+      ap (mended f.width others) (at f i h z) ∙ cond-true (empty p) (map (λ i. xored i others) (range_with_len 0 f.width)) p (sym t)
+
+  pub run_full : (z : Bor (List ℕ)) (out : List ℕ) → false ≡ empty (get_or f.picks.now (i / f.width) z).now → out ≡ take n (drop (i % f.width) (get_or f.picks.now (i / f.width) z).now) → out ≡ take n (drop i (framed_in f))
+  run_full z out t q = q ∙ sym (lies ∙ ap (λ (p : List ℕ). take n (drop (i % f.width) p)) (piece_full z t))
+
+  pub run_void : (z : Bor (List ℕ)) (out : List ℕ) → true ≡ empty (get_or f.picks.now (i / f.width) z).now → out ≡ map (λ k. xored (i % f.width + k) others) (range_with_len 0 n) → out ≡ take n (drop i (framed_in f))
   run_void z out t q =
-      let g : get_or (map f xs) (i / s) [] ≡ f (get_or xs (i / s) z) = at f xs s i e h z in
-      let m : mended s (map f xs) (get_or (map f xs) (i / s) []) ≡ map (λ i. xored i (map f xs)) (range_with_len 0 s) = ap (mended s (map f xs)) g ∙ cond-true (empty (f (get_or xs (i / s) z))) (map (λ i. xored i (map f xs)) (range_with_len 0 s)) (f (get_or xs (i / s) z)) (sym t) in
       q
-      ∙ sym (lies ∙ ap (λ (p : List ℕ). take n (drop (i % s) p)) m
-      ∙ counted_part (λ i. xored i (map f xs)) s (i % s) n r)
+      ∙ sym (lies ∙ ap (λ (p : List ℕ). take n (drop (i % f.width) p)) (piece_void z t)
+      ∙ counted_part (λ i. xored i others) f.width (i % f.width) n r)
 
-  pub run_end : (z : X) → false ≡ empty (f (get_or xs (i / s) z)) → i % s + n ≤ length (f (get_or xs (i / s) z))
+  pub run_end : (z : Bor (List ℕ)) → false ≡ empty (get_or f.picks.now (i / f.width) z).now → i % f.width + n ≤ length (get_or f.picks.now (i / f.width) z).now
   run_end z t =
-      let g : get_or (map f xs) (i / s) [] ≡ f (get_or xs (i / s) z) = at f xs s i e h z in
-      let k : i / s < length (map f xs) = simp length-map (byte-index f xs s i e h) in
-      let m : mended s (map f xs) (f (get_or xs (i / s) z)) ≡ f (get_or xs (i / s) z) = cond-false (empty (f (get_or xs (i / s) z))) (map (λ i. xored i (map f xs)) (range_with_len 0 s)) (f (get_or xs (i / s) z)) (sym t) in
-      let l : length (mended s (map f xs) (get_or (map f xs) (i / s) [])) ≡ s = even_level s (map f xs) (map f xs) e (i / s) k in
-      omega (arith, r, ap length (sym m) ∙ ap (λ (p : List ℕ). length (mended s (map f xs) p)) (sym g) ∙ l)
+      let k : i / f.width < length others = simp length-map (byte-index f i h) in
+      let l : length (mended f.width others (get_or others (i / f.width) [])) ≡ f.width = even_level f.width others others f.evened (i / f.width) k in
+      omega (arith, r, sym (ap length (piece_full z t)) ∙ l)
 
 -- what is written at the front, and what is left behind it
 module _ (entry bytes : List ℕ) (n : ℕ) (enough : n ≤ length bytes) where
@@ -171,7 +180,3 @@ write_run entry place bytes out done run m p e l em ep q =
     ∙ sym (append_assoc (take done (drop 4 bytes)) (take run (drop done (drop 4 bytes))) (drop (done + run) entry))
     ∙ ap (λ (x : List ℕ). x ++ drop (done + run) entry) (sym (take-add done run (drop 4 bytes)))
     ∙ ap (λ (x : ℕ). take (done + run) (drop 4 bytes) ++ drop x entry) (sym (zero-add (done + run)))
-
-pub xors_more : (f : ℕ → ℕ) (xs : List ℕ) (i x : ℕ) → i < length xs → ((k : ℕ) → k < i → get_or xs k 0 ≡ f k) → x ≡ f i → (k : ℕ) → k < i + 1 → get_or (set xs i x) k 0 ≡ f k
-xors_more f xs i x h below e =
-    subst (λ (y : ℕ). (k : ℕ) → k < i + 1 → get_or (set xs i y) k 0 ≡ f k) (sym e) (fill_by_more f xs i 0 h below)

@@ -1,8 +1,8 @@
 -- What the bytes of a frame are opened to, fault by fault. Assumes nothing.
-use Rattle.std.proofs.Common.{◌≡◌, ℕ, ◌+◌, ◌-◌, ◌*◌, ◌<◌, ◌≤◌, min, true, false, List, map, length, take, drop, Ok, Err, sym, ap, ◌∙◌, arith, le-ltb, eq-eqb, le-leb}
-use native.Mathlib.Nat.{sub-zero}
-use borrow.Author.Tests.{lt-leb}
-use lib.Seq.{paste}
+use Rattle.std.proofs.Common.{◌≡◌, ℕ, ◌+◌, ◌-◌, ◌*◌, ◌<◌, ◌≤◌, min, true, false, List, map, length, take, drop, Ok, Err, sym, ap, ◌∙◌, subst, arith, le-ltb, eq-eqb, le-leb}
+use Rattle.std.proofs.Math.Nat.{sub-zero}
+use Rattle.std.proofs.lemmas.Bool.{lt-leb}
+use Rattle.std.proofs.Math.Seq.{paste}
 use Rattle.std.proofs.lemmas.Nat.{mul-le}
 use Rattle.std.proofs.lemmas.List.FromFn.{length-map-range_with_len}
 use Rattle.std.proofs.lemmas.List.{length-drop, length-map}
@@ -13,35 +13,52 @@ use Rattle.scheme.specs.Told.{Opened}
 use Rattle.scheme.specs.declared.fault.Fault.TheVariants.{Padding, TooLong}
 use Rattle.tree.specs.Frames.{piece_length, unframed, zeros}
 use Rattle.tree.specs.Trees.{depth}
-use Rattle.parity.proofs.Reading.{pasted_back, pasted_front}
+use Rattle.tree.proofs.Framed.{pieces_cover}
+use Rattle.parity.specs.declared.framing.Framing.{Framing}
+use Rattle.parity.specs.Framings.{framed_in, size}
+use Rattle.parity.proofs.Reading.{length-framed_in, pasted_back, pasted_front}
 use Rattle.parity.specs.Parities.{counted, even, framing, opened, parity_opens, pick, picks, shaped, width}
 
 -- a product's size by a capped factor, which cannot wrap
 pub capped_over : (k s : ℕ) → 4 ≤ k * min s 4 → 4 ≤ k * s
 capped_over k s h = let m = mul-le k (min s 4) k s (omega arith) (omega arith) in omega arith
 
-module _ (limit k s : ℕ) (bytes : List ℕ) where
-  module _ (n p : ℕ) (long : 4 ≤ length bytes) (e : n ≡ word bytes 0 4) (q : p ≡ piece_length k n) where
-    module _ (same : p ≡ s) where
-      pub padding : false ≡ zeros (drop (4 + n) bytes) → Err Padding ≡ unframed limit k s bytes
-      padding z = simp (le-ltb (length bytes) 4 long, ← e, ← q, eq-eqb p s same, ← z)
+pub room : (f : Framing) (m : ℕ) → m ≡ min f.width 4 → 4 ≤ (length f.picks.now - 1) * m → 4 ≤ size f
+room f m e h = capped_over (length f.picks.now - 1) f.width (subst (λ (n : ℕ). 4 ≤ (length f.picks.now - 1) * n) e h)
 
-      module _ (z : true ≡ zeros (drop (4 + n) bytes)) where
-        pub over : limit < n → Err TooLong ≡ unframed limit k s bytes
-        over h = simp (le-ltb (length bytes) 4 long, ← e, ← q, eq-eqb p s same, ← z, lt-leb n limit h)
+-- what is known past the first test: the blob's length n, and how long pieces of such a blob are, p
+module _ (limit : ℕ) (f : Framing) (m n p : ℕ) (capped : m ≡ min f.width 4) (much : 4 ≤ (length f.picks.now - 1) * m) (e : n ≡ word (framed_in f) 0 4) (q : p ≡ piece_length (length f.picks.now - 1) n) where
+  long : 4 ≤ length (framed_in f)
+  long = omega (arith, length-framed_in f, room f m capped much)
 
-        module _ (place after : List ℕ) (room : n ≤ length place) (whole : 4 + n ≤ length bytes) (w : after ≡ paste place 0 (drop 4 bytes) n) where
-          enough : n ≤ length (drop 4 bytes)
-          enough = simp length-drop (omega arith)
+  module _ (same : p ≡ f.width) where
+    abbrev Opens : Opened → Type 0
+    Opens o = o ≡ unframed limit (length f.picks.now - 1) f.width (framed_in f)
 
-          pub fits : limit ≡ length place → Ok (take n after) ≡ unframed limit k s bytes
-          fits l =
-              let m : n ≤ limit = omega (arith, l) in
-              let t : take n after ≡ take n (drop 4 bytes) = simp (w, pasted_front place (drop 4 bytes) n enough) in
-              simp (le-ltb (length bytes) 4 long, ← e, ← q, eq-eqb p s same, ← z, le-leb n limit m, t)
+    pub padding : false ≡ zeros (drop (4 + n) (framed_in f)) → Opens (Err Padding)
+    padding z = simp (le-ltb (length (framed_in f)) 4 long, ← e, ← q, eq-eqb p f.width same, ← z)
 
-          pub behind : drop n after ≡ drop n place
-          behind = simp w (pasted_back place (drop 4 bytes) n enough)
+    module _ (z : true ≡ zeros (drop (4 + n) (framed_in f))) where
+      pub over : limit < n → Opens (Err TooLong)
+      over h = simp (le-ltb (length (framed_in f)) 4 long, ← e, ← q, eq-eqb p f.width same, ← z, lt-leb n limit h)
+
+      module _ (place after : List ℕ) (room : n ≤ length place) (w : after ≡ paste place 0 (drop 4 (framed_in f)) n) where
+        whole : 4 + n ≤ length (framed_in f)
+        whole =
+            let some : 1 ≤ length f.picks.now - 1 = omega (arith, f.some) in
+            simp (length-framed_in f, ← same, q) (pieces_cover (length f.picks.now - 1) n some)
+
+        enough : n ≤ length (drop 4 (framed_in f))
+        enough = simp length-drop (omega (arith, whole))
+
+        pub fits : limit ≡ length place → Opens (Ok (take n after))
+        fits l =
+            let b : n ≤ limit = omega (arith, l) in
+            let t : take n after ≡ take n (drop 4 (framed_in f)) = simp (w, pasted_front place (drop 4 (framed_in f)) n enough) in
+            simp (le-ltb (length (framed_in f)) 4 long, ← e, ← q, eq-eqb p f.width same, ← z, le-leb n limit b, t)
+
+        pub behind : drop n after ≡ drop n place
+        behind = simp w (pasted_back place (drop 4 (framed_in f)) n enough)
 
 -- from the picks to their frame
 pub evened : (limit k : ℕ) (ps : List (List ℕ)) (n w : ℕ) → n ≡ counted ps → k ≤ n → w ≡ width ps → true ≡ even w ps → (o : Opened) → o ≡ unframed limit k w (framing w ps) → o ≡ opened limit k ps

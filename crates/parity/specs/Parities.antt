@@ -1,6 +1,6 @@
 -- The scheme Parity. Assumes nothing.
-use Rattle.std.specs.Prelude.{ℕ, ◌+◌, ◌-◌, Bool, true, cond, not, ◌&&◌, ◌||◌, List, [], ◌∷◌, map, length, take, Err, fold, count_by, ◌==◌, bit_xor, nat_le, nat_lt, slice_index}
-use Rattle.std.specs.List.{range_with_len, flat_map}
+use Rattle.std.specs.Prelude.{ℕ, ◌+◌, ◌-◌, Bool, cond, not, ◌&&◌, ◌||◌, List, [], ◌∷◌, map, length, take, Err, fold, count_by, ◌==◌, bit_xor, nat_le, nat_lt, slice_index}
+use Rattle.std.specs.List.{range_with_len, flat_map, list_all}
 use Rattle.register.specs.declared.commitment.Config.{Config}
 use Rattle.scheme.specs.declared.fault.Fault.TheVariants.{TooFew, Uneven}
 use Rattle.scheme.specs.Pieces.{Indexed}
@@ -40,8 +40,7 @@ width ps = fold (λ w p. cond (empty p) w (length p)) 0 ps
 
 -- each one that there is is s long
 abbrev pub even : ℕ → List (List ℕ) → Bool
-even s [] = true
-even s (p ∷ ps) = (empty p || length p == s) && even s ps
+even s ps = list_all (λ p. empty p || length p == s) ps
 
 -- the exclusive or of their bytes at i
 abbrev pub xored : ℕ → List (List ℕ) → ℕ

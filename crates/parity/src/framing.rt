@@ -1,70 +1,97 @@
-// The framed blob in the picks, read by position: what is missing is the exclusive or of the others.
-ghost use Rattle.std.specs.Prelude.{◌≡◌, ◌+◌, ◌-◌, ◌*◌, ◌%◌, ◌^◌, ◌<◌, ◌≤◌, true, map, length, take, drop, slice_index};
-ghost use Rattle.std.proofs.Math.Seq.{paste};
+// The framed blob in picks, read by position: what is missing is the exclusive or of the others.
+ghost use Rattle.std.specs.Prelude.{◌≡◌, ◌+◌, ◌%◌, ◌^◌, ◌<◌, ◌≤◌, true, map, length, take, drop, slice_index};
 ghost use Rattle.std.specs.List.{range_with_len};
-ghost use Rattle.parity.specs.Parities.{even, framing, xored};
-ghost use Rattle.register.specs.Words.{word};
-ghost use Rattle.tree.specs.Frames.{zeros};
+ghost use Rattle.parity.specs.Parities.{even, xored};
+
+// Picks that are `width` long where they are there: those of 1 to 63 pieces, and of the parity.
+#[derive(Clone, Copy)]
+pub struct Framing<'a> {
+    pub picks: &'a [&'a [u8]],
+    pub width: usize,
+    ghost some: { 1 < length picks.now },
+    ghost few: { length picks.now ≤ 64 },
+    ghost evened: { even width (map (λ x. x.now) picks.now) ≡ true },
+}
+
+impl<'a> Framing<'a> {
+    ghost use Rattle.std.proofs.Math.Seq.{paste};
+    ghost use Rattle.parity.specs.Framings.{framed_in, size};
+    ghost use Rattle.register.specs.Words.{word};
+    ghost use Rattle.tree.specs.Frames.{zeros};
+
+    // The byte at `i`.
+    fn byte(&self, i: usize) -> u8
+        requires { i < size self.now }
+        ensures { result ≡ slice_index (framed_in self.now) i }
+    {
+        let bytes = self.picks[i / self.width];
+        if bytes.is_empty() {
+            xor_at(self.picks, i % self.width)
+        } else {
+            byte_or_zero(bytes, i % self.width)
+        }
+    }
+
+    // The length that the framed blob begins with.
+    pub fn blob_length(&self) -> u32
+        requires { 4 ≤ size self.now }
+        ensures { result ≡ word (framed_in self.now) 0 4 }
+    {
+        u32::from_be_bytes([self.byte(0), self.byte(1), self.byte(2), self.byte(3)])
+    }
+
+    // Whether the framed blob, which ends at `end`, has only zeros from `start` on.
+    pub fn zeros(&self, start: usize, end: usize) -> bool
+        requires whole { end ≡ size self.now }
+        requires within { start ≤ end }
+        ensures { result ≡ zeros (drop start (framed_in self.now)) }
+    {
+        (start..end).all(|i| self.byte(i) == 0)
+    }
+
+    // Writes what the framed blob has from `start` on, where that lies in one piece.
+    fn copy_run(&self, start: usize, out: &mut [u8])
+        requires within { start < size self.now }
+        requires inside { start % self.now.width + length out.old ≤ self.now.width }
+        ensures { out.new ≡ take (length out.old) (drop start (framed_in self.now)) }
+    {
+        let bytes = self.picks[start / self.width];
+        let at = start % self.width;
+        if bytes.is_empty() {
+            xor_from(self.picks, at, out);
+        } else {
+            copy_from(bytes, at, out);
+        }
+    }
+
+    // Writes `len` bytes of the framed blob, from its fifth on, to the front of `place`, piece by piece.
+    pub fn write(&self, len: usize, place: &mut [u8])
+        requires within { 4 + len ≤ size self.now }
+        requires room { len ≤ length place.old }
+        ensures { place.new ≡ paste place.old 0 (drop 4 (framed_in self.now)) len }
+    {
+        let mut done = 0;
+        while done < len {
+            let start = 4 + done;
+            let run = (self.width - start % self.width).min(len - done);
+            self.copy_run(start, &mut place[done..done + run]);
+            done += run;
+        }
+    }
+}
 
 // The byte at `i`, 0 past the end.
-pub fn byte_or_zero(bytes: &[u8], i: usize) -> u8
+fn byte_or_zero(bytes: &[u8], i: usize) -> u8
     ensures { result ≡ slice_index bytes.now i }
 {
-    if i < bytes.len() { bytes[i] } else { 0 }
+    bytes.get(i).copied().unwrap_or(0)
 }
 
 // The exclusive or of all bytes at `i`.
-pub fn xor_at(picks: &[&[u8]], i: usize) -> u8
+fn xor_at(picks: &[&[u8]], i: usize) -> u8
     ensures { result ≡ xored i (map (λ x. x.now) picks.now) }
 {
-    let mut x = 0;
-    for bytes in picks {
-        x ^= byte_or_zero(bytes, i);
-    }
-    x
-}
-
-// The byte at `i` of the framed blob in picks that are `width` long.
-fn byte(picks: &[&[u8]], width: usize, i: usize) -> u8
-    requires evened { even width (map (λ x. x.now) picks.now) ≡ true }
-    requires within { i < (length picks.now - 1) * width }
-    ensures { result ≡ slice_index (framing width (map (λ x. x.now) picks.now)) i }
-{
-    let bytes = picks[i / width];
-    if bytes.is_empty() {
-        xor_at(picks, i % width)
-    } else {
-        byte_or_zero(bytes, i % width)
-    }
-}
-
-// The length that the framed blob begins with.
-pub fn blob_length(picks: &[&[u8]], width: usize) -> u32
-    requires evened { even width (map (λ x. x.now) picks.now) ≡ true }
-    requires within { 4 ≤ (length picks.now - 1) * width }
-    ensures { result ≡ word (framing width (map (λ x. x.now) picks.now)) 0 4 }
-{
-    u32::from_be_bytes([
-        byte(picks, width, 0),
-        byte(picks, width, 1),
-        byte(picks, width, 2),
-        byte(picks, width, 3),
-    ])
-}
-
-// Whether the framed blob, which ends at `end`, has only zeros from `start` on.
-pub fn zeros(picks: &[&[u8]], width: usize, start: usize, end: usize) -> bool
-    requires evened { even width (map (λ x. x.now) picks.now) ≡ true }
-    requires whole { end ≡ (length picks.now - 1) * width }
-    requires within { start ≤ end }
-    ensures { result ≡ zeros (drop start (framing width (map (λ x. x.now) picks.now))) }
-{
-    for i in start..end {
-        if byte(picks, width, i) != 0 {
-            return false;
-        }
-    }
-    true
+    picks.iter().fold(0, |x, bytes| x ^ byte_or_zero(bytes, i))
 }
 
 // Writes the exclusive or of all bytes from `at` on.
@@ -72,8 +99,8 @@ fn xor_from(picks: &[&[u8]], at: usize, out: &mut [u8])
     requires { at + length out.old < 2 ^ 64 }
     ensures { out.new ≡ map (λ k. xored (at + k) (map (λ x. x.now) picks.now)) (range_with_len 0 (length out.old)) }
 {
-    for i in 0..out.len() {
-        out[i] = xor_at(picks, at + i);
+    for (k, byte) in out.iter_mut().enumerate() {
+        *byte = xor_at(picks, at + k);
     }
 }
 
@@ -83,36 +110,4 @@ fn copy_from(bytes: &[u8], at: usize, out: &mut [u8])
     ensures { out.new ≡ take (length out.old) (drop at bytes.now) }
 {
     out.copy_from_slice(&bytes[at..at + out.len()]);
-}
-
-// Writes what the framed blob has from `start` on, where that lies in one piece.
-fn copy_run(picks: &[&[u8]], width: usize, start: usize, out: &mut [u8])
-    requires evened { even width (map (λ x. x.now) picks.now) ≡ true }
-    requires within { start < (length picks.now - 1) * width }
-    requires inside { start % width + length out.old ≤ width }
-    ensures { out.new ≡ take (length out.old) (drop start (framing width (map (λ x. x.now) picks.now))) }
-{
-    let bytes = picks[start / width];
-    let at = start % width;
-    if bytes.is_empty() {
-        xor_from(picks, at, out);
-    } else {
-        copy_from(bytes, at, out);
-    }
-}
-
-// Writes `len` bytes of the framed blob, from its fifth on, to the front of `place`, piece by piece.
-pub fn write(picks: &[&[u8]], width: usize, len: usize, place: &mut [u8])
-    requires evened { even width (map (λ x. x.now) picks.now) ≡ true }
-    requires within { 4 + len ≤ (length picks.now - 1) * width }
-    requires room { len ≤ length place.old }
-    ensures { place.new ≡ paste place.old 0 (drop 4 (framing width (map (λ x. x.now) picks.now))) len }
-{
-    let mut done = 0;
-    while done < len {
-        let start = 4 + done;
-        let run = (width - start % width).min(len - done);
-        copy_run(picks, width, start, &mut place[done..done + run]);
-        done += run;
-    }
 }

@@ -2,8 +2,6 @@
 ghost use Rattle.parity.specs.Codes.{ParityIsACode};
 
 // Every shard of a blob is good, and any `minimum` of them open to it.
-pub fn parity_is_a_code() -> u8
+pub fn parity_is_a_code()
     ensures { ParityIsACode }
-{
-    0
-}
+{}

@@ -11,15 +11,12 @@ use tree::path::{depth, payload};
 pub fn pick<'a>(shards: &[Piece<'a>], depth: u32, index: u16) -> &'a [u8]
     ensures { result.now ≡ pick depth (map indexed shards.now) index }
 {
-    for shard in shards {
-        if shard.index == index {
-            let bytes = payload(depth, shard.bytes);
-            if !bytes.is_empty() {
-                return bytes;
-            }
-        }
-    }
-    &[]
+    shards
+        .iter()
+        .filter(|shard| shard.index == index)
+        .map(|shard| payload(depth, shard.bytes))
+        .find(|bytes| !bytes.is_empty())
+        .unwrap_or(&[])
 }
 
 // The picks for the indices 0 to `last`, at the front.
@@ -28,6 +25,8 @@ pub fn picks<'a>(shards: &[Piece<'a>], last: u16) -> [&'a [u8]; 64]
     ensures { map (λ x. x.now) (take (last + 1) result) ≡ picks last (map indexed shards.now) }
 {
     let levels = depth(u32::from(last));
+    // By index: `array::from_fn(|i| if i <= usize::from(last) { pick(shards, levels, i as u16) } else { &[] })`
+    // is no plainer, and after it nothing is known of what a closure with a choice in it returned.
     let mut found: [&'a [u8]; 64] = [&[]; 64];
     for index in 0..last + 1 {
         found[usize::from(index)] = pick(shards, levels, index);
@@ -39,36 +38,23 @@ pub fn picks<'a>(shards: &[Piece<'a>], last: u16) -> [&'a [u8]; 64]
 pub fn count(picks: &[&[u8]]) -> usize
     ensures { result ≡ counted (map (λ x. x.now) picks.now) }
 {
-    let mut n = 0;
-    for bytes in picks {
-        if !bytes.is_empty() {
-            n += 1;
-        }
-    }
-    n
+    picks.iter().filter(|bytes| !bytes.is_empty()).count()
 }
 
 // The length of the last one that there is.
 pub fn width(picks: &[&[u8]]) -> usize
     ensures { result ≡ width (map (λ x. x.now) picks.now) }
 {
-    let mut last = 0;
-    for bytes in picks {
-        if !bytes.is_empty() {
-            last = bytes.len();
-        }
-    }
-    last
+    picks.iter().fold(0, |last, bytes| {
+        if bytes.is_empty() { last } else { bytes.len() }
+    })
 }
 
 // Whether all that there are have this length.
 pub fn even(picks: &[&[u8]], width: usize) -> bool
     ensures { result ≡ even width (map (λ x. x.now) picks.now) }
 {
-    for bytes in picks {
-        if !bytes.is_empty() && bytes.len() != width {
-            return false;
-        }
-    }
-    true
+    picks
+        .iter()
+        .all(|bytes| bytes.is_empty() || bytes.len() == width)
 }

@@ -5,31 +5,41 @@ use scheme::fault::Fault;
 use scheme::piece::Piece;
 use std::test::Fail;
 
+const FIRST: [u8; 3] = [0, 0, 0];
+
+const SECOND: [u8; 3] = [2, 0x61, 0x62];
+
+const PARITY: [u8; 3] = [2, 0x61, 0x62];
+
 // A shard of three bytes, with a path of any two siblings.
 fn shard(payload: [u8; 3]) -> [u8; 67] {
     let mut bytes = [7; 67];
-    bytes[0] = payload[0];
-    bytes[1] = payload[1];
-    bytes[2] = payload[2];
+    bytes[..3].copy_from_slice(&payload);
     bytes
+}
+
+// Opens the shards of two payloads, each with its index.
+fn open_two(one: (u16, [u8; 3]), other: (u16, [u8; 3]), place: &mut [u8]) -> Result<usize, Fault> {
+    let (first, second) = (shard(one.1), shard(other.1));
+    let shards = [
+        Piece {
+            index: one.0,
+            bytes: &first,
+        },
+        Piece {
+            index: other.0,
+            bytes: &second,
+        },
+    ];
+    open(&picks(&shards, 2)[0..3], place)
 }
 
 #[test]
 fn both_pieces(rt: HostRuntime) -> Result<(), Fail> {
-    let (first, second) = (shard([0, 0, 0]), shard([2, 0x61, 0x62]));
-    let shards = [
-        Piece {
-            index: 1,
-            bytes: &second,
-        },
-        Piece {
-            index: 0,
-            bytes: &first,
-        },
-    ];
-    let found = picks(&shards, 2);
     let mut place = [9; 4];
-    let length = open(&found[0..3], &mut place).ok().ok_or("opens")?;
+    let length = open_two((1, SECOND), (0, FIRST), &mut place)
+        .ok()
+        .ok_or("opens")?;
     assert_eq!(rt; length, 2);
     assert_eq!(rt; place, [0x61, 0x62, 9, 9]);
     Ok(())
@@ -37,20 +47,10 @@ fn both_pieces(rt: HostRuntime) -> Result<(), Fail> {
 
 #[test]
 fn one_piece_missing(rt: HostRuntime) -> Result<(), Fail> {
-    let (first, parity) = (shard([0, 0, 0]), shard([2, 0x61, 0x62]));
-    let shards = [
-        Piece {
-            index: 2,
-            bytes: &parity,
-        },
-        Piece {
-            index: 0,
-            bytes: &first,
-        },
-    ];
-    let found = picks(&shards, 2);
     let mut place = [9; 4];
-    let length = open(&found[0..3], &mut place).ok().ok_or("opens")?;
+    let length = open_two((2, PARITY), (0, FIRST), &mut place)
+        .ok()
+        .ok_or("opens")?;
     assert_eq!(rt; length, 2);
     assert_eq!(rt; place, [0x61, 0x62, 9, 9]);
     Ok(())
@@ -58,30 +58,9 @@ fn one_piece_missing(rt: HostRuntime) -> Result<(), Fail> {
 
 #[test]
 fn faults(rt: HostRuntime) {
-    let (first, parity) = (shard([0, 0, 0]), shard([2, 0x61, 0x62]));
     let mut place = [9; 1];
-    let few = [
-        Piece {
-            index: 0,
-            bytes: &first,
-        },
-        Piece {
-            index: 0,
-            bytes: &parity,
-        },
-    ];
-    let found = picks(&few, 2);
-    assert_eq!(rt; open(&found[0..3], &mut place), Err(Fault::TooFew));
-    let enough = [
-        Piece {
-            index: 0,
-            bytes: &first,
-        },
-        Piece {
-            index: 2,
-            bytes: &parity,
-        },
-    ];
-    let found = picks(&enough, 2);
-    assert_eq!(rt; open(&found[0..3], &mut place), Err(Fault::TooLong));
+    let few = open_two((0, FIRST), (0, PARITY), &mut place);
+    assert_eq!(rt; few, Err(Fault::TooFew));
+    let long = open_two((0, FIRST), (2, PARITY), &mut place);
+    assert_eq!(rt; long, Err(Fault::TooLong));
 }

@@ -1,12 +1,12 @@
-use Rattle.std.proofs.Common.{◌≡◌, ◌+◌, ◌-◌, ◌≤◌, map, length, take, drop, arith}
-use Rattle.parity.specs.Parities.{framing}
-use Rattle.parity.proofs.Reading.{framing_long, part_length, write_run}
-use Rattle.parity.proofs.framing.write.Goals as goal
+use Rattle.std.proofs.Common.{◌≡◌, ◌+◌, ◌-◌, ◌≤◌, length, take, drop, arith}
+use Rattle.parity.specs.Framings.{framed_in}
+use Rattle.parity.proofs.Reading.{length-framed_in, part_length, write_run}
+use Rattle.parity.proofs.framing.Framing.write.Goals as goal
 
 pub loop-done-preserved : goal.loop-done-preserved
 loop-done-preserved c =
-    let bytes = framing c.args.width (map (λ x. x.now) c.args.picks.now) in
-    let n = framing_long (λ x. x.now) c.args.picks.now c.args.width c.requires.evened in
+    let bytes = framed_in c.args.self.now in
+    let n = length-framed_in c.args.self.now in
     let done = c.loop-done.done in
     let run = c.min-run.result in
     let low : done + run ≤ c.args.len = omega (arith, c.min-run.ensures, c.loop-done-test.true) in
