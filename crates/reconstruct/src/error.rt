@@ -5,12 +5,13 @@ ghost use Rattle.reconstruct.specs.declared.error.Error.TheVariants.{Blob, Codin
 use block::blob::Misfit;
 use scheme::fault::Fault;
 
-#[derive(Clone, Copy)]
+#[derive(Clone, Copy, Debug, PartialEq, Eq)]
 pub enum Error {
     Coding(Fault),
     Blob(Misfit),
 }
 
+// Both `From` are by hand: what `#[derive(Error)]` of thiserror writes has no `from_gives`, so a `?` would not tell which error.
 impl From<Fault> for Error {
     ghost from_gives = { λ f r. r ≡ Coding f };
 
