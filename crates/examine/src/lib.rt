@@ -6,8 +6,8 @@ ghost use Rattle.examine.specs.Arrived.{shard_of, shards_of};
 ghost use Rattle.examine.specs.Examines.{Examines, empty};
 ghost use Rattle.scheme.specs.Pieces.{indexed};
 
+use reconstruct::coder::Coder;
 use reconstruct::outcome::Outcome;
-use reconstruct::reconstruct::reconstruct;
 use scheme::piece::Piece;
 use shardfile::file::{Arrival, ShardFile};
 use std::alloc::{AllocError, Global};
@@ -50,17 +50,13 @@ fn check_and_open(
     requires clear { place.old ≡ empty file.now }
     ensures { Examines file.now verdicts.new result place.new }
 {
-    let outcome = reconstruct(
-        &file.hash,
-        &file.scheme,
-        &file.kind,
-        &file.commitment,
-        shards,
-        0,
-        verdicts,
-        place,
-    );
-    outcome.unwrap()
+    let coder = Coder {
+        hash: &file.hash,
+        scheme: &file.scheme,
+        kind: &file.kind,
+        commitment: &file.commitment,
+    };
+    coder.reconstruct(shards, 0, verdicts, place).unwrap()
 }
 
 // Checks every shard, and opens the good ones in the order in which they came.

@@ -1,10 +1,10 @@
 // What an engine asks of the layers below it, by their meaning.
-ghost use Rattle.std.specs.Prelude.{◌≡◌, ℕ, ◌<◌, map, length, drop, is_some, if◌then◌else◌, Some, None, MatchOption};
-ghost use Rattle.model.specs.Meaning.{Meaning, Roster, good_for, minimum_of, opened_for, rebuilt_for};
-ghost use Rattle.reconstruct.specs.Gathered.{gathered, roomy};
-ghost use Rattle.reconstruct.specs.Outcomes.{ended, filled};
+ghost use Rattle.std.specs.Prelude.{◌≡◌, ℕ, ◌<◌, length, is_some, MatchOption};
+ghost use Rattle.layers.specs.Together.{terms_for};
+ghost use Rattle.model.specs.Meaning.{Meaning, Roster, good_for};
+ghost use Rattle.reconstruct.specs.Coders.{judged_by, outcome_of, place_after};
 ghost use Rattle.rosters.specs.Roster.{Fair, index_in};
-ghost use Rattle.scheme.specs.Pieces.{indexed, judged};
+ghost use Rattle.scheme.specs.Pieces.{indexed};
 
 use reconstruct::outcome::Outcome;
 use register::commitment::Commitment;
@@ -31,9 +31,9 @@ pub trait Node {
         verdicts: &mut [bool],
         place: &mut [u8],
     ) -> Option<Outcome>
-        ensures gives { result ≡ (if roomy checked (length shards.old) (length verdicts.old) then Some (ended (minimum_of commitment.now.bytes) (gathered (λ i x. good_for (meaning self.now) (length place.old) commitment.now.bytes (record { index = i; bytes = x })) checked (map indexed shards.old)) (rebuilt_for (meaning self.now) (length place.old) commitment.now.bytes (gathered (λ i x. good_for (meaning self.now) (length place.old) commitment.now.bytes (record { index = i; bytes = x })) checked (map indexed shards.old)))) else None) }
-        ensures writes { place.new ≡ (if roomy checked (length shards.old) (length verdicts.old) then filled (minimum_of commitment.now.bytes) (gathered (λ i x. good_for (meaning self.now) (length place.old) commitment.now.bytes (record { index = i; bytes = x })) checked (map indexed shards.old)) (opened_for (meaning self.now) (length place.old) commitment.now.bytes (gathered (λ i x. good_for (meaning self.now) (length place.old) commitment.now.bytes (record { index = i; bytes = x })) checked (map indexed shards.old))) place.old else place.old) }
-        ensures judges { MatchOption result (verdicts.new ≡ verdicts.old) (λ _. verdicts.new ≡ judged (λ i x. good_for (meaning self.now) (length place.old) commitment.now.bytes (record { index = i; bytes = x })) (drop checked (map indexed shards.old)) verdicts.old) };
+        ensures gives { result ≡ outcome_of (terms_for (meaning self.now) commitment.now.bytes (length place.old)) checked shards.old (length verdicts.old) }
+        ensures writes { place.new ≡ place_after (terms_for (meaning self.now) commitment.now.bytes (length place.old)) checked shards.old (length verdicts.old) place.old }
+        ensures judges { MatchOption result (verdicts.new ≡ verdicts.old) (λ _. verdicts.new ≡ judged_by (terms_for (meaning self.now) commitment.now.bytes (length place.old)) checked shards.old verdicts.old) };
 
     fn knows(&self, epoch: Epoch) -> bool
         ensures { result ≡ is_some ((roster self.now).keys epoch.0) };

@@ -5,8 +5,8 @@ ghost use Rattle.std.proofs.Common.{rules};
 use crate::node::Node;
 use block::kind::Kind;
 use hash::Hash;
+use reconstruct::coder::Coder;
 use reconstruct::outcome::Outcome;
-use reconstruct::reconstruct::reconstruct;
 use register::commitment::Commitment;
 use register::counters::Epoch;
 use register::key::Key;
@@ -43,16 +43,13 @@ impl<D: Hash, S: Scheme, K: Kind, R: Roster> Node for Layers<D, S, K, R> {
         verdicts: &mut [bool],
         place: &mut [u8],
     ) -> Option<Outcome> {
-        reconstruct(
-            &self.hash,
-            &self.scheme,
-            &self.kind,
+        let coder = Coder {
+            hash: &self.hash,
+            scheme: &self.scheme,
+            kind: &self.kind,
             commitment,
-            shards,
-            checked,
-            verdicts,
-            place,
-        )
+        };
+        coder.reconstruct(shards, checked, verdicts, place)
     }
 
     fn knows(&self, epoch: Epoch) -> bool {

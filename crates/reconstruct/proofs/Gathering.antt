@@ -1,7 +1,7 @@
 -- Gathering: the verdicts are on what is behind the checked shards, and what passed comes up behind them. Assumes nothing.
 use Rattle.std.proofs.Common.{◌≡◌, ℕ, ◌+◌, ◌-◌, ◌≤◌, Bool, true, false, cond, leb, List, [], ◌∷◌, ◌++◌, map, length, take, drop, Some, None, filter, Option, sym, refl, ap, ◌∙◌, arith, length-append, length-drop, length-take-le, le-leb}
 use borrow.Rule.Slice.PartMut.{put_mid}
-use lib.Seq.{take-append-add, take-append-le}
+use Rattle.std.proofs.Math.Seq.{take-append-add, take-append-le}
 use Rattle.std.proofs.lemmas.List.{drop-map, length-map, map-append, take_all, take-map}
 use Rattle.scheme.specs.Pieces.{Indexed, indexed, judged}
 use Rattle.scheme.specs.declared.piece.Piece.{Piece}

@@ -1,6 +1,5 @@
 -- What a decoding and a fit say together. Assumes nothing.
-use Rattle.std.proofs.Common.{◌≡◌, ℕ, ◌-◌, ◌≤◌, List, length, take, drop, Ok, Option, Result, sym, ap, ◌∙◌, arith, take-append-drop, length-take-le}
-use native.Mathlib.Nat.{sub-zero}
+use Rattle.std.proofs.Common.{◌≡◌, ℕ, ◌≤◌, List, length, take, drop, Ok, Option, Result, sym, ap, ◌∙◌, arith, take-append-drop, length-take-le}
 use Rattle.block.specs.Blobs.{fitted}
 use Rattle.block.specs.declared.blob.Misfit.{Misfit}
 use Rattle.block.specs.declared.kind.Reading.{Reading}
@@ -14,6 +13,6 @@ opened_writes o n place after e within long behind =
     let front : length (take n after) ≡ n = length-take-le n after fits in
     sym (take-append-drop n after) ∙ simp behind (simp front at w)
 
-pub opened_fits : (digest : List ℕ → List ℕ) (reads : List ℕ → Option Reading) (commitment : List ℕ) (o : Opened) (n : ℕ) (after : List ℕ) (r : Result Reading Misfit) → Ok (take n after) ≡ o → r ≡ fitted digest reads commitment (take (n - 0) after) → raised r ≡ rebuilt digest reads commitment o
+pub opened_fits : (digest : List ℕ → List ℕ) (reads : List ℕ → Option Reading) (commitment : List ℕ) (o : Opened) (n : ℕ) (after : List ℕ) (r : Result Reading Misfit) → Ok (take n after) ≡ o → r ≡ fitted digest reads commitment (take n after) → raised r ≡ rebuilt digest reads commitment o
 opened_fits digest reads commitment o n after r e f =
-    ap raised f ∙ simp sub-zero (ap (λ (p : Opened). rebuilt digest reads commitment p) e)
+    ap raised f ∙ ap (λ (p : Opened). rebuilt digest reads commitment p) e

@@ -1,3 +1,4 @@
+pub mod Coders
 pub mod Gathered
 pub mod Outcomes
 pub mod Passed

@@ -11,6 +11,7 @@ pub enum Error {
     Blob(Misfit),
 }
 
+// Both `From` are by hand: what `#[derive(Error)]` of thiserror writes has no `from_gives`, so a `?` would not tell which error.
 impl From<Fault> for Error {
     ghost from_gives = { λ f r. r ≡ Coding f };
 

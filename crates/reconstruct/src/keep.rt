@@ -12,8 +12,8 @@ pub(crate) fn keep(shards: &mut [Piece<'_>], verdicts: &[bool]) -> usize
     ensures within { result ≤ length shards.old }
 {
     let mut count = 0;
-    for i in 0..shards.len() {
-        if verdicts[i] {
+    for (i, good) in verdicts[..shards.len()].iter().enumerate() {
+        if *good {
             shards[count] = shards[i];
             count += 1;
         }

@@ -3,9 +3,9 @@ use Rattle.examine.proofs.check_and_open.Goals as goal
 
 pub unwrap-requires : goal.unwrap-requires
 unwrap-requires c =
-    is_given c.args.file.now c.args.shards.now c.args.verdicts.now c.requires.room c.reconstruct-outcome.result c.args.place.now c.reconstruct-outcome.ensures.gives
+    is_given c.args.file.now c.args.shards.now c.args.verdicts.now c.requires.room c.reconstruct.result c.args.place.now c.reconstruct.ensures.gives
 
 pub returns : goal.returns
 returns c =
-    let told = c.reconstruct-outcome.ensures in
-    examined c.args.file.now c.args.shards.now c.args.verdicts.now c.requires.room c.reconstruct-outcome.result c.args.place.now told.gives c.unwrap.result c.unwrap.ensures c.requires.arrived c.requires.clear c.reconstruct-outcome.new.place c.reconstruct-outcome.new.verdicts told.writes told.judges
+    let told = c.reconstruct.ensures in
+    examined c.args.file.now c.args.shards.now c.args.verdicts.now c.requires.room c.reconstruct.result c.args.place.now told.gives c.unwrap.result c.unwrap.ensures c.requires.arrived c.requires.clear c.reconstruct.new.place c.reconstruct.new.verdicts told.writes told.judges
