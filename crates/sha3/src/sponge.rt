@@ -100,11 +100,7 @@ fn absorb(state: [u64; 25], head: &[u8], tail: &[u8]) -> [u64; 25]
 fn squeeze(state: [u64; 25]) -> [u8; 32]
     ensures { result ≡ squeezed state }
 {
-    let mut digest = [0u8; 32];
-    for k in 0..32 {
-        digest[k] = ((state[k / 8] >> (8 * (k % 8))) % 256) as u8;
-    }
-    digest
+    std::array::from_fn(|k| ((state[k / 8] >> (8 * (k % 8))) % 256) as u8)
 }
 
 // The digest of `first` followed by `second`.
