@@ -1,6 +1,8 @@
 // What a hash means: every byte string has one digest of 32 bytes.
 #![tactic(auto)]
 
+pub mod parts;
+
 ghost use Rattle.std.specs.Prelude.{ℕ, ◌<◌, List, ◌++◌, ◌≡◌, get_or, length};
 
 pub trait Hash {

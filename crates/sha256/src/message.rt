@@ -3,6 +3,8 @@ ghost use Rattle.std.specs.Prelude.{◌≡◌, ◌+◌, ◌-◌, ◌*◌, ◌^�
 ghost use Rattle.std.proofs.Math.Seq.{paste};
 ghost use Rattle.sha256.specs.Fips180.{padding, word, words};
 
+use hash::parts::{after, array_at};
+
 // The padding of a message stands in the first `len` bytes.
 #[derive(Drop)]
 pub struct Padding {
@@ -35,17 +37,6 @@ pub fn padding_of(n: u128) -> Padding
     }
 }
 
-// What is left of `part` from `at` on.
-fn rest(part: &[u8], at: u128) -> &[u8]
-    ensures { result.now ≡ drop at part.now }
-{
-    if at < part.len() as u128 {
-        &part[at as usize..]
-    } else {
-        &[]
-    }
-}
-
 // Writes what fits of `part` after the first `filled` bytes of the block, and returns how many are filled then.
 fn append(block: &mut [u8; 64], filled: usize, part: &[u8]) -> usize
     requires { filled ≤ 64 }
@@ -62,7 +53,7 @@ fn word_at(block: &[u8], j: usize) -> u32
     requires { j + 4 ≤ length block.now }
     ensures { result ≡ word block.now j }
 {
-    u32::from_be_bytes([block[j], block[j + 1], block[j + 2], block[j + 3]])
+    u32::from_be_bytes(array_at::<4>(block, j))
 }
 
 fn block_words(block: &[u8]) -> [u32; 16]
@@ -97,13 +88,17 @@ fn gather(first: &[u8], second: &[u8], pad: &[u8], at: u128) -> [u8; 64]
     let before_second = first.len() as u128;
     let before_pad = before_second + second.len() as u128;
     let mut block = [0u8; 64];
-    let filled = append(&mut block, 0, rest(first, at));
+    let filled = append(&mut block, 0, after(first, at));
     let filled = append(
         &mut block,
         filled,
-        rest(second, at.saturating_sub(before_second)),
+        after(second, at.saturating_sub(before_second)),
     );
-    let _ = append(&mut block, filled, rest(pad, at.saturating_sub(before_pad)));
+    let _ = append(
+        &mut block,
+        filled,
+        after(pad, at.saturating_sub(before_pad)),
+    );
     block
 }
 
