@@ -1,4 +1,4 @@
-use Rattle.std.proofs.Common.{◌+◌, ◌-◌, ◌/◌, ◌%◌, ◌^◌, bit_and, arith, rules}
+use Rattle.std.proofs.Common.{◌+◌, ◌-◌, ◌%◌, ◌^◌, bit_and, arith, rules}
 use Rattle.sha3.specs.Fips202.{◌⊕◌, at, χ}
 use Rattle.sha3.proofs.Lanes.{lanes_from}
 use Rattle.sha3.proofs.keccak.chi.Goals as goal

@@ -6,4 +6,4 @@ use Rattle.sha3.proofs.keccak.keccak_f.Goals as goal
 pub returns : goal.returns
 unfolding keccak_f rounds
 returns c =
-    folded _ (λ k. rounds k c.args.state) _ 24 (λ b r k f' call. search rules) (λ k r f' low call. search rules) _ c.fold.result refl refl c.fold.ensures.ran
+    folded _ (λ k. rounds k c.args.state) _ 24 (λ k r f' low call. search rules) _ c.fold.result refl refl c.fold.ensures.ran
