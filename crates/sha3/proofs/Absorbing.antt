@@ -1,20 +1,13 @@
 -- One block goes into the state: the first of the padded message without the blocks before it.
-use Rattle.std.proofs.Common.{◌≡◌, ℕ, zero, suc, ◌+◌, ◌-◌, ◌*◌, ◌<◌, ◌≤◌, cond, ltb, List, [], ◌∷◌, ◌++◌, map, length, get_or, drop, sym, refl, ap, ◌∙◌, arith, le-ltb}
+use Rattle.std.proofs.Common.{◌≡◌, ℕ, zero, suc, ◌+◌, ◌-◌, ◌*◌, ◌≤◌, cond, ltb, List, [], ◌∷◌, ◌++◌, map, length, get_or, drop, sym, refl, ap, ◌∙◌, arith, le-ltb}
 use native.Mathlib.Nat.{sub-zero}
 use lib.Bits.{bit_xor, xor_zero_r}
-use Rattle.std.proofs.lemmas.Bool.{lt-ltb}
 use Rattle.std.specs.List.{range_with_len}
 use Rattle.sha3.specs.Fips202.{keccak_f, lane, padded, xored, xored_lane}
 use Rattle.sha3.proofs.Padding.{padded-drop}
 use Rattle.sha3.proofs.Reading.{lane-drop}
 
--- The lanes of the block change, and those behind it stay.
-pub xored_here : (S P : List ℕ) (l : ℕ) → l < 17 → bit_xor (get_or S l 0) (lane P (8 * l)) ≡ xored_lane S P 0 l
-xored_here S P l h =
-    let place : 8 * l ≡ 0 + 8 * l = omega arith in
-    ap (λ k. bit_xor (get_or S l 0) (lane P k)) place
-    ∙ sym (ap (λ b. bit_xor (get_or S l 0) (cond b (lane P (0 + 8 * l)) 0)) (lt-ltb l 17 h))
-
+-- The lanes behind the block stay.
 pub stays : (S P : List ℕ) (l : ℕ) → 17 ≤ l → get_or S l 0 ≡ xored_lane S P 0 l
 stays S P l h =
     sym (ap (λ b. bit_xor (get_or S l 0) (cond b (lane P (0 + 8 * l)) 0)) (le-ltb l 17 h) ∙ xor_zero_r (get_or S l 0))

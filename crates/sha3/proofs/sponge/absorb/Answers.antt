@@ -1,18 +1,17 @@
-use Rattle.std.proofs.Common.{⊎_elim, ◌∙◌, rules}
+use Rattle.std.proofs.Common.{◌∙◌, ⊎_elim, arith}
+use Rattle.std.proofs.lemmas.List.FromFn.{fill_by_all}
 use Rattle.std.proofs.lemmas.Bool.{cases_lt}
 use Rattle.sha3.specs.Fips202.{padded, xored, xored_lane}
-use Rattle.sha3.proofs.Absorbing.{stays, xored_here}
-use Rattle.sha3.proofs.Calls.{made_each}
+use Rattle.sha3.proofs.Absorbing.{stays}
 use Rattle.sha3.proofs.sponge.absorb.Goals as goal
 
 pub returns : goal.returns
 unfolding xored
 returns c =
-    let S = c.args.state in
     let P = padded c.args.message.now in
-    made_each _ (xored_lane S P 0) _ 25
-    (λ l x f low call. (
-      ⊎_elim (λ h. search rules ∙ xored_here S P l h) (λ h. search rules ∙ stays S P l h) (cases_lt l 17),
-      search rules,
-    ))
-    c.from_fn.result c.from_fn.ensures.items
+    fill_by_all (xored_lane c.args.state P 0) c.loop-l.next 25 0 (omega arith)
+    (λ k h.
+    ⊎_elim
+    (λ low. c.loop-l.invariant.1 k (omega arith))
+    (λ high. c.loop-l.invariant.2 k (omega arith) ∙ stays c.args.state P k high)
+    (cases_lt k 17))
