@@ -1,7 +1,7 @@
 -- One block goes into the state: the first of the padded message without the blocks before it.
 use Rattle.std.proofs.Common.{◌≡◌, ℕ, zero, suc, ◌+◌, ◌-◌, ◌*◌, ◌≤◌, cond, ltb, List, [], ◌∷◌, ◌++◌, map, length, get_or, drop, sym, refl, ap, ◌∙◌, arith, le-ltb}
-use native.Mathlib.Nat.{sub-zero}
-use lib.Bits.{bit_xor, xor_zero_r}
+use Rattle.std.proofs.Math.Nat.{sub-zero}
+use Rattle.std.specs.Int.Bits.{bit_xor, xor_zero_r}
 use Rattle.std.specs.List.{range_with_len}
 use Rattle.sha3.specs.Fips202.{keccak_f, lane, padded, xored, xored_lane}
 use Rattle.sha3.proofs.Padding.{padded-drop}

@@ -1,7 +1,7 @@
 -- What the padding puts behind a message: the bytes of §B.2, and the same bytes behind the message without its first blocks.
 use Rattle.std.proofs.Common.{◌≡◌, ℕ, ◌+◌, ◌-◌, ◌*◌, ◌/◌, ◌%◌, ◌<◌, ◌≤◌, List, [], ◌∷◌, ◌++◌, length, get_or, drop, replicate, sym, refl, ap, ◌∙◌, mod-eq_of_lt, arith, length-append, length-drop}
-use native.Mathlib.Nat.{add-mul-mod_self_left}
-use lib.ListN.{length-replicate, get_or-replicate}
+use Rattle.std.proofs.Math.Nat.{add-mul-mod_self_left}
+use Rattle.std.proofs.lemmas.List.{length-replicate, get_or-replicate}
 use Rattle.std.proofs.lemmas.List.FromFn.{get_or-map-range_with_len, length-map-range_with_len}
 use Rattle.std.proofs.lemmas.List.{get_or_append_left, get_or-append_right, get_or_at, drop-append-le}
 use Rattle.sha3.specs.Fips202.{byte, bytes, padded}
