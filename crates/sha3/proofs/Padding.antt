@@ -1,7 +1,7 @@
 -- What the padding puts behind a message: the bytes of §B.2, and the same bytes behind the message without its first blocks.
 use Rattle.std.proofs.Common.{◌≡◌, ℕ, ◌+◌, ◌-◌, ◌*◌, ◌/◌, ◌%◌, ◌<◌, ◌≤◌, List, [], ◌∷◌, ◌++◌, length, get_or, drop, replicate, sym, refl, ap, ◌∙◌, mod-eq_of_lt, arith, length-append, length-drop}
-use native.Mathlib.Nat.{add-mul-mod_self_left}
-use lib.ListN.{length-replicate, get_or-replicate}
+use Rattle.std.proofs.Math.Nat.{add-mul-mod_self_left}
+use Rattle.std.proofs.lemmas.List.{length-replicate, get_or-replicate}
 use Rattle.std.proofs.lemmas.List.FromFn.{get_or-map-range_with_len, length-map-range_with_len}
 use Rattle.std.proofs.lemmas.List.{get_or_append_left, get_or-append_right, get_or_at, drop-append-le}
 use Rattle.sha3.specs.Fips202.{byte, bytes, padded}
@@ -37,8 +37,8 @@ byte_first j h =
     let e7 = bit_zero j 7 (omega arith) (omega arith) in
     omega arith
 
-byte_middle : (j q : ℕ) → 1 ≤ q → 8 * q + 7 < j + 3 → byte (bits j) q ≡ 0
-byte_middle j q low high =
+byte_high : (j q : ℕ) → 1 ≤ q → 8 * q + 6 < j + 3 → byte (bits j) q ≡ get_or (bits j) (8 * q + 7) 0 * 128
+byte_high j q low high =
     let e0 = bit_zero j (8 * q) (omega arith) (omega arith) in
     let e1 = bit_zero j (8 * q + 1) (omega arith) (omega arith) in
     let e2 = bit_zero j (8 * q + 2) (omega arith) (omega arith) in
@@ -46,20 +46,15 @@ byte_middle j q low high =
     let e4 = bit_zero j (8 * q + 4) (omega arith) (omega arith) in
     let e5 = bit_zero j (8 * q + 5) (omega arith) (omega arith) in
     let e6 = bit_zero j (8 * q + 6) (omega arith) (omega arith) in
-    let e7 = bit_zero j (8 * q + 7) (omega arith) (omega arith) in
     omega arith
+
+byte_middle : (j q : ℕ) → 1 ≤ q → 8 * q + 7 < j + 3 → byte (bits j) q ≡ 0
+byte_middle j q low high =
+    byte_high j q low (omega arith) ∙ ap (λ b. b * 128) (bit_zero j (8 * q + 7) (omega arith) (omega arith))
 
 byte_last : (j q : ℕ) → 1 ≤ q → 8 * q + 7 ≡ j + 3 → byte (bits j) q ≡ 128
 byte_last j q low e =
-    let e0 = bit_zero j (8 * q) (omega arith) (omega arith) in
-    let e1 = bit_zero j (8 * q + 1) (omega arith) (omega arith) in
-    let e2 = bit_zero j (8 * q + 2) (omega arith) (omega arith) in
-    let e3 = bit_zero j (8 * q + 3) (omega arith) (omega arith) in
-    let e4 = bit_zero j (8 * q + 4) (omega arith) (omega arith) in
-    let e5 = bit_zero j (8 * q + 5) (omega arith) (omega arith) in
-    let e6 = bit_zero j (8 * q + 6) (omega arith) (omega arith) in
-    let e7 = bit_one j (8 * q + 7) (omega arith) in
-    omega arith
+    byte_high j q low (omega arith) ∙ ap (λ b. b * 128) (bit_one j (8 * q + 7) (omega arith))
 
 -- A message of n bytes in its last block has 8 (135 - n) + 4 zeros in its padding.
 zeros_short : (n : ℕ) → n < 136 → zeros n ≡ 1084 - 8 * n

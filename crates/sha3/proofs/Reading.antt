@@ -1,6 +1,7 @@
 -- Where the bytes and the lanes of a padded message of two parts stand in the parts.
-use Rattle.std.proofs.Common.{◌≡◌, ℕ, ◌+◌, ◌-◌, ◌<◌, ◌≤◌, List, [], ◌++◌, length, get_or, drop, sym, refl, ap, ◌∙◌, add-zero, arith, length-append}
+use Rattle.std.proofs.Common.{◌≡◌, ℕ, ◌+◌, ◌-◌, ◌<◌, ◌≤◌, List, [], ◌++◌, length, get_or, take, drop, sym, refl, ap, ◌∙◌, add-zero, arith, length-append}
 use Rattle.std.proofs.lemmas.List.{get_or_append_left, get_or-append_right, get_or-drop, get_or_past}
+use Rattle.hash.proofs.Places.{array_byte}
 use Rattle.sha3.specs.Fips202.{lane, padded}
 use Rattle.sha3.proofs.Padding.{middle}
 
@@ -50,3 +51,11 @@ lane-drop P n k =
     (λ b low.
     let e : n + (k + b) ≡ n + k + b = omega arith in
     get_or-drop n P (k + b) 0 ∙ ap (λ p. get_or P p 0) e)
+
+-- A lane that is read as an array of eight bytes.
+pub lane-array : (bytes xs : List ℕ) (k : ℕ) → xs ≡ take 8 (drop k bytes) → lane xs 0 ≡ lane bytes k
+lane-array bytes xs k e =
+    lane_same xs bytes 0 k
+    (λ b low.
+    let place : 0 + b ≡ b = omega arith in
+    ap (λ p. get_or xs p 0) place ∙ array_byte 8 k b bytes xs e low)

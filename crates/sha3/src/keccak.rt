@@ -1,7 +1,7 @@
 // KECCAK-f[1600]: the permutation of 25 lanes, lane (x, y) at x + 5 y.
-ghost use Rattle.std.specs.Prelude.{◌≡◌, ◌<◌, map};
+ghost use Rattle.std.specs.Prelude.{◌≡◌, ℕ, ◌<◌, map};
 ghost use Rattle.std.specs.List.{range_with_len};
-ghost use Rattle.sha3.specs.Fips202.{D, Rnd, keccak_f, θ, ι, π, ρ, χ};
+ghost use Rattle.sha3.specs.Fips202.{D, Rnd, at, keccak_f, θ, ι, π, ρ, χ};
 
 // RC of each round (FIPS 202, §3.2.5).
 const CONSTANTS: [u64; 24] = [
@@ -31,26 +31,58 @@ const CONSTANTS: [u64; 24] = [
     0x8000000080008008,
 ];
 
-// A turn to the left by `$left`, `$right` being 64 less that: two shifts, which the proof reads by computation.
-macro_rules! turned {
-    ($lane:expr, $left:literal, $right:literal) => { $lane << $left | $lane >> $right };
+// The turns of rho (§3.2.2, table 2), of lane (x, y) at x + 5 y.
+const OFFSETS: [u32; 25] = [
+    0, 1, 62, 28, 27, 36, 44, 6, 55, 20, 3, 10, 43, 25, 39, 41, 45, 15, 21, 8, 18, 2, 61, 56, 14,
+];
+
+// The state of which lane (x, y) is what `lane` gives. Written out: the loop that `array::from_fn` makes is not unrolled, and
+// the hash was then at 0.11 of its speed.
+fn lanes<F: Fn(usize, usize) -> u64>(lane: F) -> [u64; 25]
+    requires { (x y : ℕ) → x < 5 → y < 5 → F.pre lane x y }
+    ensures { (x y : ℕ) → x < 5 → y < 5 → F.post lane x y (at result x y) }
+{
+    [
+        lane(0, 0),
+        lane(1, 0),
+        lane(2, 0),
+        lane(3, 0),
+        lane(4, 0),
+        lane(0, 1),
+        lane(1, 1),
+        lane(2, 1),
+        lane(3, 1),
+        lane(4, 1),
+        lane(0, 2),
+        lane(1, 2),
+        lane(2, 2),
+        lane(3, 2),
+        lane(4, 2),
+        lane(0, 3),
+        lane(1, 3),
+        lane(2, 3),
+        lane(3, 3),
+        lane(4, 3),
+        lane(0, 4),
+        lane(1, 4),
+        lane(2, 4),
+        lane(3, 4),
+        lane(4, 4),
+    ]
 }
 
 // The steps of a round (§3.2). First, what theta adds to each lane of column x.
 fn theta_sums(a: [u64; 25]) -> [u64; 5]
     ensures { result ≡ map (D a) (range_with_len 0 5) }
 {
-    let c0 = a[0] ^ a[5] ^ a[10] ^ a[15] ^ a[20];
-    let c1 = a[1] ^ a[6] ^ a[11] ^ a[16] ^ a[21];
-    let c2 = a[2] ^ a[7] ^ a[12] ^ a[17] ^ a[22];
-    let c3 = a[3] ^ a[8] ^ a[13] ^ a[18] ^ a[23];
-    let c4 = a[4] ^ a[9] ^ a[14] ^ a[19] ^ a[24];
+    let c = |x: usize| a[x] ^ a[x + 5] ^ a[x + 10] ^ a[x + 15] ^ a[x + 20];
+    let (c0, c1, c2, c3, c4) = (c(0), c(1), c(2), c(3), c(4));
     [
-        c4 ^ turned!(c1, 1, 63),
-        c0 ^ turned!(c2, 1, 63),
-        c1 ^ turned!(c3, 1, 63),
-        c2 ^ turned!(c4, 1, 63),
-        c3 ^ turned!(c0, 1, 63),
+        c4 ^ c1.rotate_left(1),
+        c0 ^ c2.rotate_left(1),
+        c1 ^ c3.rotate_left(1),
+        c2 ^ c4.rotate_left(1),
+        c3 ^ c0.rotate_left(1),
     ]
 }
 
@@ -58,106 +90,25 @@ fn theta(a: [u64; 25]) -> [u64; 25]
     ensures { result ≡ θ a }
 {
     let d = theta_sums(a);
-    [
-        a[0] ^ d[0],
-        a[1] ^ d[1],
-        a[2] ^ d[2],
-        a[3] ^ d[3],
-        a[4] ^ d[4],
-        a[5] ^ d[0],
-        a[6] ^ d[1],
-        a[7] ^ d[2],
-        a[8] ^ d[3],
-        a[9] ^ d[4],
-        a[10] ^ d[0],
-        a[11] ^ d[1],
-        a[12] ^ d[2],
-        a[13] ^ d[3],
-        a[14] ^ d[4],
-        a[15] ^ d[0],
-        a[16] ^ d[1],
-        a[17] ^ d[2],
-        a[18] ^ d[3],
-        a[19] ^ d[4],
-        a[20] ^ d[0],
-        a[21] ^ d[1],
-        a[22] ^ d[2],
-        a[23] ^ d[3],
-        a[24] ^ d[4],
-    ]
+    lanes(|x, y| a[x + 5 * y] ^ d[x])
 }
 
 fn rho(a: [u64; 25]) -> [u64; 25]
     ensures { result ≡ ρ a }
 {
-    [
-        a[0],
-        turned!(a[1], 1, 63),
-        turned!(a[2], 62, 2),
-        turned!(a[3], 28, 36),
-        turned!(a[4], 27, 37),
-        turned!(a[5], 36, 28),
-        turned!(a[6], 44, 20),
-        turned!(a[7], 6, 58),
-        turned!(a[8], 55, 9),
-        turned!(a[9], 20, 44),
-        turned!(a[10], 3, 61),
-        turned!(a[11], 10, 54),
-        turned!(a[12], 43, 21),
-        turned!(a[13], 25, 39),
-        turned!(a[14], 39, 25),
-        turned!(a[15], 41, 23),
-        turned!(a[16], 45, 19),
-        turned!(a[17], 15, 49),
-        turned!(a[18], 21, 43),
-        turned!(a[19], 8, 56),
-        turned!(a[20], 18, 46),
-        turned!(a[21], 2, 62),
-        turned!(a[22], 61, 3),
-        turned!(a[23], 56, 8),
-        turned!(a[24], 14, 50),
-    ]
+    lanes(|x, y| a[x + 5 * y].rotate_left(OFFSETS[x + 5 * y]))
 }
 
 fn pi(a: [u64; 25]) -> [u64; 25]
     ensures { result ≡ π a }
 {
-    [
-        a[0], a[6], a[12], a[18], a[24], a[3], a[9], a[10], a[16], a[22], a[1], a[7], a[13], a[19],
-        a[20], a[4], a[5], a[11], a[17], a[23], a[2], a[8], a[14], a[15], a[21],
-    ]
+    lanes(|x, y| a[(x + 3 * y) % 5 + 5 * x])
 }
 
 fn chi(a: [u64; 25]) -> [u64; 25]
     ensures { result ≡ χ a }
 {
-    [
-        a[0] ^ (!a[1] & a[2]),
-        a[1] ^ (!a[2] & a[3]),
-        a[2] ^ (!a[3] & a[4]),
-        a[3] ^ (!a[4] & a[0]),
-        a[4] ^ (!a[0] & a[1]),
-        a[5] ^ (!a[6] & a[7]),
-        a[6] ^ (!a[7] & a[8]),
-        a[7] ^ (!a[8] & a[9]),
-        a[8] ^ (!a[9] & a[5]),
-        a[9] ^ (!a[5] & a[6]),
-        a[10] ^ (!a[11] & a[12]),
-        a[11] ^ (!a[12] & a[13]),
-        a[12] ^ (!a[13] & a[14]),
-        a[13] ^ (!a[14] & a[10]),
-        a[14] ^ (!a[10] & a[11]),
-        a[15] ^ (!a[16] & a[17]),
-        a[16] ^ (!a[17] & a[18]),
-        a[17] ^ (!a[18] & a[19]),
-        a[18] ^ (!a[19] & a[15]),
-        a[19] ^ (!a[15] & a[16]),
-        a[20] ^ (!a[21] & a[22]),
-        a[21] ^ (!a[22] & a[23]),
-        a[22] ^ (!a[23] & a[24]),
-        a[23] ^ (!a[24] & a[20]),
-        a[24] ^ (!a[20] & a[21]),
-    ]
+    lanes(|x, y| a[x + 5 * y] ^ (!a[(x + 1) % 5 + 5 * y] & a[(x + 2) % 5 + 5 * y]))
 }
 
 fn iota(mut a: [u64; 25], ir: usize) -> [u64; 25]
@@ -178,10 +129,5 @@ fn round(a: [u64; 25], ir: usize) -> [u64; 25]
 pub fn keccak_f(state: [u64; 25]) -> [u64; 25]
     ensures { result ≡ keccak_f state }
 {
-    let mut a = state;
-    for ir in 0..24 {
-        let next = round(a, ir);
-        a = next;
-    }
-    a
+    (0..24).fold(state, round)
 }

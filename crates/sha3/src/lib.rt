@@ -26,8 +26,6 @@ impl Hash for Sha3 {
 }
 
 // Published digests, computed by the definition.
-pub fn examples_stand() -> u8
+pub fn examples_stand()
     ensures { Empty × Abc × Bits1600 }
-{
-    0
-}
+{}

@@ -1,5 +1,5 @@
 use Rattle.std.proofs.Common.{get_or, set, ap, arith}
-use lib.Bits.{bit_xor}
+use Rattle.std.specs.Int.Bits.{bit_xor}
 use Rattle.std.proofs.lemmas.List.FromFn.{get_or-map-range_with_len}
 use Rattle.sha3.specs.Fips202.{RC, ι}
 use Rattle.sha3.proofs.keccak.iota.Goals as goal
