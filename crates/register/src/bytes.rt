@@ -1,7 +1,6 @@
 // Comparing and writing byte strings.
 ghost use Rattle.std.specs.Prelude.{◌≡◌, ◌++◌, length, drop, if◌then◌else◌, is_ok, nat_le};
 ghost use Rattle.register.specs.Order.{order};
-ghost use Rattle.std.specs.Str.{bytes_eq};
 
 use std::cmp::Ordering;
 
@@ -19,12 +18,6 @@ pub fn write_front(place: &mut [u8], bytes: &[u8]) -> Result<(), NoRoom>
     }
     place[..bytes.len()].copy_from_slice(bytes);
     Ok(())
-}
-
-pub fn same(a: &[u8], b: &[u8]) -> bool
-    ensures { result ≡ bytes_eq a.now b.now }
-{
-    a == b
 }
 
 // As unsigned bytes from the first; it ends at the first pair that differs.
