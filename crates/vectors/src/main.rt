@@ -16,7 +16,7 @@ use std::alloc::{AllocError, Global};
 use std::fs;
 
 // How many messages and splits agree.
-#[derive(Clone, Copy)]
+#[derive(Clone, Copy, Default)]
 struct Tally {
     standard: u32,
     lengths: u32,
@@ -51,16 +51,11 @@ fn agrees<D: Hash>(hash: &D, first: &[u8], second: &[u8], expected: &[u8; 32]) -
 fn agreeing_splits<D: Hash>(hash: &D, message: &[u8], expected: &[u8; 32]) -> Result<u32, usize> {
     let n = message.len();
     let places = [0, 1, 31, 32, 33, 63, 64, 65, n / 3, n / 2, n - n.min(1), n];
-    let mut splits = 0u32;
-    for at in places {
-        if at <= n {
-            if !agrees(hash, &message[0..at], &message[at..n], expected) {
-                return Err(at);
-            }
-            splits = splits.saturating_add(1);
-        }
-    }
-    Ok(splits)
+    places.iter().try_fold(0u32, |splits, at| match message.split_at_checked(*at) {
+        Some((first, second)) if agrees(hash, first, second, expected) => Ok(splits.saturating_add(1)),
+        Some(_) => Err(*at),
+        None => Ok(splits),
+    })
 }
 
 // The number of cuts of the case's message that agree, which the whole message does too.
@@ -80,18 +75,9 @@ fn run_case<D: Hash>(heap: Global, hash: &D, case: &Case<'_>) -> anyhow::Result<
 
 // Every case of the hash that the file calls `name`.
 fn run_cases<D: Hash>(heap: Global, hash: &D, name: &str, text: &str) -> anyhow::Result<Tally> {
-    let mut tally = Tally {
-        standard: 0,
-        lengths: 0,
-        splits: 0,
-    };
-    for line in text.lines() {
-        if line.starts_with('#') {
-            continue;
-        }
-        let Some(case) = parse_case(line) else {
-            return Err(anyhow!("a line of digests.txt is not a case"));
-        };
+    let mut tally = Tally::default();
+    for line in text.lines().filter(|line| !line.starts_with('#')) {
+        let case = parse_case(line).ok_or_else(|| anyhow!("a line of digests.txt is not a case"))?;
         if case.hash == name {
             let splits = run_case(heap, hash, &case)?;
             tally.add(&case.message, splits);
