@@ -1,5 +1,7 @@
 // The lines of the file of digests.
 
+use hex::FromHex;
+
 // What a message is: a text so many times over, or the pattern of so many bytes.
 #[derive(Drop)]
 pub enum Message<'a> {
@@ -9,31 +11,18 @@ pub enum Message<'a> {
 
 #[derive(Drop)]
 pub struct Case<'a> {
+    // A name and no enum: a line of a hash that is not asked for is no fault, whatever its name.
     pub hash: &'a str,
     pub message: Message<'a>,
     pub digest: [u8; 32],
 }
 
-fn hex_digit(b: u8) -> Option<u8> {
-    match b {
-        b'0'..=b'9' => Some(b - b'0'),
-        b'a'..=b'f' => Some(b - b'a' + 10),
-        _ => None,
-    }
-}
-
+// Digits in capitals, which `hex` reads too, are refused.
 fn parse_digest(text: &str) -> Option<[u8; 32]> {
-    let hex = text.as_bytes();
-    if hex.len() != 64 {
+    if text.bytes().any(|b| b.is_ascii_uppercase()) {
         return None;
     }
-    let mut digest = [0u8; 32];
-    for i in 0..32 {
-        let high = hex_digit(hex[2 * i])?;
-        let low = hex_digit(hex[2 * i + 1])?;
-        digest[i] = (high << 4) | low;
-    }
-    Some(digest)
+    <[u8; 32]>::from_hex(text).ok()
 }
 
 pub fn parse_case(line: &str) -> Option<Case<'_>> {

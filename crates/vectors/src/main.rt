@@ -15,8 +15,17 @@ use sha256::Sha256;
 use std::alloc::{AllocError, Global};
 use std::fs;
 
+// A digest that is not the stored one.
+#[derive(Debug, Drop, thiserror::Error)]
+enum Differs {
+    #[error("the digest of a message of {bytes} bytes differs")]
+    Whole { bytes: usize },
+    #[error("the digest of a message of {bytes} bytes, cut at {at}, differs")]
+    Cut { bytes: usize, at: usize },
+}
+
 // How many messages and splits agree.
-#[derive(Clone, Copy)]
+#[derive(Clone, Copy, Default)]
 struct Tally {
     standard: u32,
     lengths: u32,
@@ -48,50 +57,35 @@ fn agrees<D: Hash>(hash: &D, first: &[u8], second: &[u8], expected: &[u8; 32]) -
 }
 
 // Hashes the message cut in two at a dozen places; the number of cuts, or the first place at which the digest differs.
-fn agreeing_splits<D: Hash>(hash: &D, message: &[u8], expected: &[u8; 32]) -> Result<u32, usize> {
+fn agreeing_splits<D: Hash>(hash: &D, message: &[u8], expected: &[u8; 32]) -> Result<u32, Differs> {
     let n = message.len();
     let places = [0, 1, 31, 32, 33, 63, 64, 65, n / 3, n / 2, n - n.min(1), n];
-    let mut splits = 0u32;
-    for at in places {
-        if at <= n {
-            if !agrees(hash, &message[0..at], &message[at..n], expected) {
-                return Err(at);
-            }
-            splits = splits.saturating_add(1);
-        }
-    }
-    Ok(splits)
+    places
+        .iter()
+        .try_fold(0u32, |splits, at| match message.split_at_checked(*at) {
+            Some((first, second)) if agrees(hash, first, second, expected) => Ok(
+                splits.saturating_add(1),
+            ),
+            Some(_) => Err(Differs::Cut { bytes: n, at: *at }),
+            None => Ok(splits),
+        })
 }
 
 // The number of cuts of the case's message that agree, which the whole message does too.
 fn run_case<D: Hash>(heap: Global, hash: &D, case: &Case<'_>) -> anyhow::Result<u32> {
     let message = message_of(heap, &case.message)?;
-    let n = message.len();
     if hash.hash(message.as_slice()) != case.digest {
-        return Err(anyhow!(format!(in heap; "the digest of a message of {n} bytes differs")?));
+        let bytes = message.len();
+        return Err(Differs::Whole { bytes }.into());
     }
-    match agreeing_splits(hash, message.as_slice(), &case.digest) {
-        Ok(splits) => Ok(splits),
-        Err(at) => Err(anyhow!(format!(in heap;
-            "the digest of a message of {n} bytes, cut at {at}, differs"
-        )?)),
-    }
+    Ok(agreeing_splits(hash, message.as_slice(), &case.digest)?)
 }
 
 // Every case of the hash that the file calls `name`.
 fn run_cases<D: Hash>(heap: Global, hash: &D, name: &str, text: &str) -> anyhow::Result<Tally> {
-    let mut tally = Tally {
-        standard: 0,
-        lengths: 0,
-        splits: 0,
-    };
-    for line in text.lines() {
-        if line.starts_with('#') {
-            continue;
-        }
-        let Some(case) = parse_case(line) else {
-            return Err(anyhow!("a line of digests.txt is not a case"));
-        };
+    let mut tally = Tally::default();
+    for line in text.lines().filter(|line| !line.starts_with('#')) {
+        let case = parse_case(line).ok_or_else(|| anyhow!("a line of digests.txt is not a case"))?;
         if case.hash == name {
             let splits = run_case(heap, hash, &case)?;
             tally.add(&case.message, splits);

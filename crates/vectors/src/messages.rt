@@ -14,19 +14,11 @@ fn pattern_byte(n: u32, i: u32) -> u8
 pub fn pattern_of(heap: Global, n: u32) -> Result<Vec<u8>, AllocError>
     ensures { IfOk result (λ v. v.items ≡ pattern n) }
 {
-    let mut bytes = Vec::new(heap);
-    for i in 0..n {
-        bytes.push(pattern_byte(n, i))?;
-    }
-    Ok(bytes)
+    (0..n).map(|i| pattern_byte(n, i)).collect(heap)
 }
 
 pub fn repeat(heap: Global, text: &[u8], count: u32) -> Result<Vec<u8>, AllocError>
     ensures { IfOk result (λ v. v.items ≡ repeated count text.now) }
 {
-    let mut bytes = Vec::new(heap);
-    for k in 0..count {
-        bytes.extend_from_slice(text)?;
-    }
-    Ok(bytes)
+    text.repeat(heap, count as usize)
 }
