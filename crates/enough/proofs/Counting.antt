@@ -7,8 +7,8 @@ use Rattle.std.proofs.lemmas.Map.Steps.{length-le_from_distinct_below}
 use Rattle.std.proofs.lemmas.Map.Views.{Contains-from_any}
 use Rattle.std.specs.Cmp.{nat_eq_equiv}
 use Rattle.std.specs.List.{AllByRecursion, IsDistinct, list_any}
+use Rattle.table.proofs.Carried.{all_weaker}
 use Rattle.model.specs.Promises.{Distinct}
-use Rattle.runs.proofs.Each.{all_weaker}
 use Rattle.runs.proofs.Tallies.{distinct, flag_most, hit_other, tally}
 
 abbrev pub itself : ℕ → ℕ

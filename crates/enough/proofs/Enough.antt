@@ -6,6 +6,7 @@ use Rattle.std.specs.Option.{option_map}
 use Rattle.std.specs.List.{AllByRecursion}
 use Rattle.reconstruct.specs.declared.error.Error.{Error}
 use Rattle.scheme.specs.Pieces.{Indexed}
+use Rattle.table.proofs.Carried.{all_weaker}
 use Rattle.model.specs.Calls.{refused, completion, block_look_up, is_commitment, phase_of}
 use Rattle.model.specs.Histories.{Agrees, Assignment, Entry, Event, HandedIn, Leads, since}
 use Rattle.model.specs.Intake.{index_of}
@@ -15,7 +16,7 @@ use Rattle.model.specs.Promises.{CompletesWell, Completing, EndedAbove, Enough, 
 use Rattle.model.specs.State.{Job, Limits, Phase, awaiting, cached, Rec, Shards, State, filed_under, record_of}
 use Rattle.model.specs.Steps.{completion_of, step}
 use Rattle.model.specs.declared.answer.Refusal.TheVariants.{NoBlock}
-use Rattle.runs.proofs.Each.{all_append, all_weaker, all_with}
+use Rattle.runs.proofs.Each.{all_append, all_with}
 use Rattle.runs.proofs.Entries.{by_option, found_key}
 use Rattle.runs.proofs.Intakes.{completes_ways}
 use Rattle.runs.proofs.Rolls.{roll_record}

@@ -6,12 +6,12 @@ use Rattle.std.specs.List.{AllByRecursion}
 use Rattle.register.specs.declared.counters.Round.{Round}
 use Rattle.rosters.specs.Sound.{ascending, index}
 use Rattle.scheme.specs.Pieces.{Indexed}
+use Rattle.table.proofs.Carried.{all_weaker}
 use Rattle.model.specs.Calls.{Answer, is_commitment}
 use Rattle.model.specs.Histories.{Assignment, Brings, Counts, Event, HandedIn}
 use Rattle.model.specs.Meaning.{Meaning, minimum_of}
 use Rattle.model.specs.Promises.{Completing, EndedAbove}
 use Rattle.model.specs.State.{Limits, Rec, new_record}
-use Rattle.runs.proofs.Each.{all_weaker}
 use Rattle.runs.proofs.Tallies.{flag}
 use Rattle.enough.proofs.Draws.{Grown, SoundHere, good_here}
 use Rattle.enough.proofs.Held.{GivenTo, Lost, Settled}

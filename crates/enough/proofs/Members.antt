@@ -6,7 +6,8 @@ use Rattle.std.specs.Ordering.{is_lt}
 use Rattle.std.specs.List.{AllByRecursion}
 use Rattle.register.specs.Order.{order}
 use Rattle.rosters.specs.Sound.{ascending, index, rises}
-use Rattle.runs.proofs.Each.{all_get_or, all_weaker}
+use Rattle.table.proofs.Carried.{all_weaker}
+use Rattle.runs.proofs.Each.{all_get_or}
 use Rattle.runs.proofs.Entries.{byte_laws}
 
 all_rises : (k : List ℕ) (ks : List (List ℕ)) → rises k ks ≡ true → AllByRecursion (λ l. order k l ≡ Less) ks

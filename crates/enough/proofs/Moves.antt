@@ -8,6 +8,7 @@ use Rattle.register.specs.Order.{order}
 use Rattle.rosters.specs.Sound.{index}
 use Rattle.scheme.specs.Pieces.{Indexed}
 use Rattle.table.specs.Laws.{Ascends, look}
+use Rattle.table.proofs.Carried.{all_weaker}
 use Rattle.model.specs.Boxes.{all_drawn}
 use Rattle.model.specs.Calls.{Answer, Call}
 use Rattle.model.specs.Histories.{Agrees, Assignment, Brings, Counts, Event}
@@ -16,7 +17,6 @@ use Rattle.model.specs.Promises.{Completing, EndedAbove}
 use Rattle.model.specs.State.{Limits, Peer, Rec, State, filed_under, record_of}
 use Rattle.model.specs.Steps.{Step, advanced, all_taken, began, entered, replaced, wants}
 use Rattle.runs.proofs.Boxes.{Filled, drawn_brought}
-use Rattle.runs.proofs.Each.{all_weaker}
 use Rattle.runs.proofs.Entries.{differ, entry_laws, replaced_ascends, replaced-found, replaced_others}
 use Rattle.enough.proofs.Draws.{Grown, SoundHere, advanced_grown, good_here, known, row_all, row-began}
 use Rattle.enough.proofs.Held.{GivenTo, Settled}

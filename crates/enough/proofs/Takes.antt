@@ -7,13 +7,13 @@ use Rattle.register.specs.ByteOrder.{order_same}
 use Rattle.register.specs.Order.{order}
 use Rattle.rosters.specs.Sound.{index}
 use Rattle.scheme.specs.Pieces.{Indexed}
-use Rattle.table.proofs.Carried.{all_look, all_put}
+use Rattle.table.proofs.Carried.{all_look, all_put, all_weaker}
 use Rattle.table.proofs.Lawful.{found_exactly}
 use Rattle.model.specs.Intake.{Action, Class, acts, assigned, contributes, owned, stray, Taken, arrives, classed, dropped, from_member, index_of, is_assigned, led, received_at, rejected, sender_of, unless_contributed, unless_received, verifies, waits, with_pending, with_received}
 use Rattle.model.specs.State.{Phase, awaiting, cached, Rec, Sent, Shards, with_contribution, with_phase}
 use Rattle.model.specs.declared.answer.Reason.{Reason}
 use Rattle.model.specs.declared.answer.Reason.TheVariants.{Stranger, WrongIndex}
-use Rattle.runs.proofs.Each.{all_append, all_weaker, all_with}
+use Rattle.runs.proofs.Each.{all_append, all_with}
 use Rattle.runs.proofs.Entries.{by_option, number_laws, number_same}
 use Rattle.runs.proofs.Places.{index_below}
 use Rattle.runs.proofs.Records.{sent_at}

@@ -7,10 +7,10 @@ use Rattle.std.specs.List.{AllByRecursion}
 use Rattle.std.specs.Str.{bytes_eq}
 use Rattle.rosters.specs.Sound.{index}
 use Rattle.scheme.specs.Pieces.{Indexed}
-use Rattle.table.proofs.Carried.{all_changed, all_look}
+use Rattle.table.proofs.Carried.{all_changed, all_look, all_weaker}
 use Rattle.model.specs.Boxes.{all_drawn, all_left, boxes_with, drawn_from, left_from, renewed, sent_by, stands_at, turned, wanted_by}
 use Rattle.model.specs.State.{Early, Peer, Sent}
-use Rattle.runs.proofs.Each.{all_append, all_drop, all_map, all_weaker}
+use Rattle.runs.proofs.Each.{all_append, all_drop, all_map}
 use Rattle.runs.proofs.Entries.{found_key}
 
 pub same_bytes : (xs ys : List ℕ) → bytes_eq xs ys ≡ true → xs ≡ ys

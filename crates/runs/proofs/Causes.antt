@@ -5,7 +5,7 @@ use Rattle.std.proofs.lemmas.Bool.{both_ways}
 use Rattle.std.specs.List.{AllByRecursion}
 use Rattle.rosters.specs.Sound.{index}
 use Rattle.scheme.specs.Pieces.{Indexed}
-use Rattle.table.proofs.Carried.{all_look}
+use Rattle.table.proofs.Carried.{all_look, all_weaker}
 use Rattle.table.proofs.Lawful.{found_exactly}
 use Rattle.model.specs.Calls.{Answer, refused, answered, changed_peers, given, told}
 use Rattle.model.specs.Histories.{Announced, Assignment, Event, HandedIn, Leads}
@@ -14,7 +14,7 @@ use Rattle.model.specs.Jobs.{failing, job_in}
 use Rattle.model.specs.Meaning.{Meaning, good_for}
 use Rattle.model.specs.Promises.{Blameless, NobodyWithoutCause, Spares}
 use Rattle.model.specs.State.{Job, Limits, Rec, Sent, State}
-use Rattle.runs.proofs.Each.{all_filter, all_weaker}
+use Rattle.runs.proofs.Each.{all_filter}
 use Rattle.runs.proofs.Entries.{number_laws, number_same}
 use Rattle.runs.proofs.Intakes.{intake_ways}
 use Rattle.runs.proofs.Places.{index_same, stray_not_at, stray_not_own}

@@ -19,9 +19,6 @@ module _ {X : Type 0} (P : X → Type 0) where
   pub all_get_or : (xs : List X) (i : ℕ) (d : X) → i < length xs → AllByRecursion P xs → P (get_or xs i d)
   all_get_or xs i d h p = grind (arith, as_All)
 
-  pub all_weaker : (Q : X → Type 0) → ((x : X) → P x → Q x) → (xs : List X) → AllByRecursion P xs → AllByRecursion Q xs
-  all_weaker Q f xs p = grind (arith, by_recursion, as_All)
-
   -- of what a test keeps
   pub all_filter : (Q : X → Type 0) (test : X → Bool) → ((x : X) → test x ≡ true → P x → Q x) → (xs : List X) → AllByRecursion P xs → AllByRecursion Q (filter test xs)
   all_filter Q test f [] p = tt

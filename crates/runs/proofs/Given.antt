@@ -9,14 +9,13 @@ use Rattle.block.specs.Blobs.{parsed}
 use Rattle.block.specs.declared.kind.Reading.{Reading}
 use Rattle.register.specs.Commitments.{config_at, config_of}
 use Rattle.scheme.specs.Pieces.{Indexed}
-use Rattle.table.proofs.Carried.{all_look}
+use Rattle.table.proofs.Carried.{all_look, all_weaker}
 use Rattle.model.specs.Calls.{Call, discovery, notarization, shard, completion, peer_change, block_look_up, verified_look_up, block_in, phase_of, turned_down}
 use Rattle.model.specs.Histories.{Announced, Assignment, Event, HandedIn, Leads}
 use Rattle.model.specs.Meaning.{Meaning, Roster, fitted_for}
 use Rattle.model.specs.Promises.{BlocksWereHandedIn, Gives, HandedInBlock}
 use Rattle.model.specs.State.{Limits, Rec, State, record_of}
 use Rattle.model.specs.Steps.{Step, block_given, step, unless_refused}
-use Rattle.runs.proofs.Each.{all_weaker}
 use Rattle.runs.proofs.Entries.{by_option, found_key}
 use Rattle.runs.proofs.Reached.{kept}
 use Rattle.runs.proofs.Records.{FineRecord, OpenedFrom, fine_keeps}

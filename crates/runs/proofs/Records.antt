@@ -11,7 +11,7 @@ use Rattle.register.specs.declared.counters.Round.{Round}
 use Rattle.rosters.specs.Sound.{index}
 use Rattle.scheme.specs.Pieces.{Indexed}
 use Rattle.scheme.specs.Told.{Opened}
-use Rattle.table.proofs.Carried.{all_put}
+use Rattle.table.proofs.Carried.{all_put, all_weaker}
 use Rattle.model.specs.Histories.{Assignment}
 use Rattle.model.specs.Intake.{assigned, owned, classed, index_of, intake, joined, sender_of, verifies, waits, with_pending, with_received}
 use Rattle.model.specs.Jobs.{blob_in, completes, failing, job_in, numbered, passing, returned_in, shard_of, started, tried_in, tried_with, tries}
@@ -19,7 +19,7 @@ use Rattle.model.specs.Meaning.{Meaning, Roster, fitted_for, good_for, minimum_o
 use Rattle.model.specs.Promises.{Distinct}
 use Rattle.model.specs.State.{Job, Limits, Phase, awaiting, cached, Rec, Sent, Shards, new_record, with_phase}
 use Rattle.model.specs.Steps.{observes, same_epoch}
-use Rattle.runs.proofs.Each.{all_append, all_drop, all_filter, all_map, all_take, all_weaker}
+use Rattle.runs.proofs.Each.{all_append, all_drop, all_filter, all_map, all_take}
 use Rattle.runs.proofs.Entries.{by_option}
 use Rattle.runs.proofs.Intakes.{completes_ways, intake_ways}
 use Rattle.runs.proofs.Places.{assigned_at, assigned_without, index_below, own_below}
