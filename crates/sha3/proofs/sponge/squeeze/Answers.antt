@@ -1,6 +1,6 @@
 use Rattle.std.proofs.Common.{rules}
 use Rattle.sha3.specs.Fips202.{squeezed, squeezed_byte}
-use Rattle.sha3.proofs.Calls.{made_each}
+use Rattle.hash.proofs.FromFn.{made_each}
 use Rattle.sha3.proofs.sponge.squeeze.Goals as goal
 
 pub returns : goal.returns
