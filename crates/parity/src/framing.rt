@@ -64,7 +64,8 @@ impl<'a> Framing<'a> {
         }
     }
 
-    // Writes `len` bytes of the framed blob, from its fifth on, to the front of `place`, piece by piece.
+    // Writes `len` bytes of the framed blob, from its fifth on, to the front of `place`, piece by piece. A `while`: the
+    // first run is shorter than the others, and after a loop over `place.chunks_mut(..)` nothing is known of what it wrote.
     pub fn write(&self, len: usize, place: &mut [u8])
         requires within { 4 + len ≤ size self.now }
         requires room { len ≤ length place.old }
@@ -104,7 +105,8 @@ fn xor_from(picks: &[&[u8]], at: usize, out: &mut [u8])
     }
 }
 
-// Writes what `bytes` has from `at` on.
+// Writes what `bytes` has from `at` on. Apart from `xor_from`: `fill(out, |k| bytes[at + k])`, over a function that both
+// could share, copies byte by byte.
 fn copy_from(bytes: &[u8], at: usize, out: &mut [u8])
     requires { at + length out.old ≤ length bytes.now }
     ensures { out.new ≡ take (length out.old) (drop at bytes.now) }

@@ -9,5 +9,5 @@ pub fn piece_length(pieces: u16, blob: u32) -> u64
     if pieces == 0 {
         return 0;
     }
-    (u64::from(blob) + 4 + (u64::from(pieces) - 1)) / u64::from(pieces)
+    (u64::from(blob) + 4).div_ceil(u64::from(pieces))
 }
