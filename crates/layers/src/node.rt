@@ -33,7 +33,7 @@ pub trait Node {
     ) -> Option<Outcome>
         ensures gives { result ≡ outcome_of (terms_for (meaning self.now) commitment.now.bytes (length place.old)) checked shards.old (length verdicts.old) }
         ensures writes { place.new ≡ place_after (terms_for (meaning self.now) commitment.now.bytes (length place.old)) checked shards.old (length verdicts.old) place.old }
-        ensures judges { MatchOption result (verdicts.new ≡ verdicts.old) (λ _. verdicts.new ≡ judged_by (terms_for (meaning self.now) commitment.now.bytes (length place.old)) checked shards.old verdicts.old) };
+        ensures judges { MatchOption result (verdicts.new ≡ verdicts.old) (λ _. verdicts.new ≡ judged_by (terms_for (meaning self.now) commitment.now.bytes (length place.old)).good checked shards.old verdicts.old) };
 
     fn knows(&self, epoch: Epoch) -> bool
         ensures { result ≡ is_some ((roster self.now).keys epoch.0) };

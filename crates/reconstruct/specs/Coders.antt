@@ -42,10 +42,11 @@ terms_of digest good opens reads c limit =
 abbrev pub block_in : Terms → List Indexed → Result Reading Error
 block_in t shards = t.reads (t.opens shards)
 
-module _ (t : Terms) (checked : ℕ) (shards : List Piece) where
+-- by which shards are good
+module _ (good : ℕ → List ℕ → Bool) (checked : ℕ) (shards : List Piece) where
   -- the shards that the block is opened from
   abbrev pub all : List Indexed
-  all = gathered t.good checked (map indexed shards)
+  all = gathered good checked (map indexed shards)
 
   -- how many those are, where there is room for so many verdicts
   abbrev pub counted : ℕ → Option ℕ
@@ -60,14 +61,17 @@ module _ (t : Terms) (checked : ℕ) (shards : List Piece) where
 
   -- a verdict for each pending shard
   abbrev pub judged_by : List Bool → List Bool
-  judged_by verdicts = judged t.good (drop checked (map indexed shards)) verdicts
+  judged_by verdicts = judged good (drop checked (map indexed shards)) verdicts
 
+module _ (t : Terms) (checked : ℕ) (shards : List Piece) where
   -- how it ends
   abbrev pub outcome_of : ℕ → Option Outcome
   outcome_of verdicts =
-      if roomy checked (length shards) verdicts then Some (ended t.minimum all (block_in t all)) else None
+      let opened = all t.good checked shards in
+      if roomy checked (length shards) verdicts then Some (ended t.minimum opened (block_in t opened)) else None
 
   -- what the place holds then
   abbrev pub place_after : ℕ → List ℕ → List ℕ
   place_after verdicts place =
-      if roomy checked (length shards) verdicts then filled t.minimum all (t.opens all) place else place
+      let opened = all t.good checked shards in
+      if roomy checked (length shards) verdicts then filled t.minimum opened (t.opens opened) place else place

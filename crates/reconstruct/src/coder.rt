@@ -1,11 +1,11 @@
 // Hash, scheme, block kind and commitment together: from checked and pending shards to a block or a fault.
-ghost use Rattle.std.specs.Prelude.{◌≡◌, ◌≤◌, map, length, IfSome, MatchOption};
-ghost use Rattle.reconstruct.specs.Coders.{Gathers, GathersAll, block_in, counted, judged_by, outcome_of, place_after, terms_of};
+ghost use Rattle.std.specs.Prelude.{◌≡◌, map, length, MatchOption};
+ghost use Rattle.reconstruct.specs.Coders.{GathersAll, block_in, judged_by, outcome_of, place_after, terms_of};
 ghost use Rattle.reconstruct.specs.Rebuilt.{written};
 ghost use Rattle.scheme.specs.Pieces.{indexed};
 
 use crate::error::Error;
-use crate::keep::keep;
+use crate::gather::gather;
 use crate::outcome::Outcome;
 use block::blob::fit;
 use block::kind::{Kind, Reading};
@@ -24,30 +24,6 @@ pub struct Coder<'a, D, S, K> {
 }
 
 impl<'a, D: Hash, S: Scheme, K: Kind> Coder<'a, D, S, K> {
-    // Checks the shards behind the first `checked`, moves the good ones up behind those, and counts all that stand there
-    // then. None, with nothing changed, where there are not as many shards or no room for the verdicts.
-    pub fn gather(
-        &self,
-        limit: usize,
-        shards: &mut [Piece<'_>],
-        checked: usize,
-        verdicts: &mut [bool],
-    ) -> Option<usize>
-        ensures counts { result ≡ counted (terms_of D.digest S.good S.opens K.reads self.now limit) checked shards.old (length verdicts.old) }
-        ensures gathers { MatchOption result (shards.new ≡ shards.old) (Gathers (terms_of D.digest S.good S.opens K.reads self.now limit) checked shards.old shards.new) }
-        ensures within { IfSome result (λ n. n ≤ length shards.old) }
-        ensures judges { MatchOption result (verdicts.new ≡ verdicts.old) (λ _. verdicts.new ≡ judged_by (terms_of D.digest S.good S.opens K.reads self.now limit) checked shards.old verdicts.old) }
-    {
-        if checked > shards.len() {
-            return None;
-        }
-        let coding = Coding::of(self.commitment);
-        self.scheme
-            .check_many(self.hash, coding, limit, &shards[checked..], verdicts)
-            .ok()?;
-        Some(checked + keep(&mut shards[checked..], verdicts))
-    }
-
     // Opens the shards into the front of `place`, and reads the block there if it fits the commitment.
     pub fn open(&self, shards: &[Piece<'_>], place: &mut [u8]) -> Result<Reading, Error>
         ensures gives { result ≡ block_in (terms_of D.digest S.good S.opens K.reads self.now (length place.old)) (map indexed shards.now) }
@@ -70,10 +46,19 @@ impl<'a, D: Hash, S: Scheme, K: Kind> Coder<'a, D, S, K> {
     ) -> Option<Outcome>
         ensures gives { result ≡ outcome_of (terms_of D.digest S.good S.opens K.reads self.now (length place.old)) checked shards.old (length verdicts.old) }
         ensures writes { place.new ≡ place_after (terms_of D.digest S.good S.opens K.reads self.now (length place.old)) checked shards.old (length verdicts.old) place.old }
-        ensures gathers { MatchOption result (shards.new ≡ shards.old) (λ _. GathersAll (terms_of D.digest S.good S.opens K.reads self.now (length place.old)) checked shards.old shards.new) }
-        ensures judges { MatchOption result (verdicts.new ≡ verdicts.old) (λ _. verdicts.new ≡ judged_by (terms_of D.digest S.good S.opens K.reads self.now (length place.old)) checked shards.old verdicts.old) }
+        ensures gathers { MatchOption result (shards.new ≡ shards.old) (λ _. GathersAll (terms_of D.digest S.good S.opens K.reads self.now (length place.old)).good checked shards.old shards.new) }
+        ensures judges { MatchOption result (verdicts.new ≡ verdicts.old) (λ _. verdicts.new ≡ judged_by (terms_of D.digest S.good S.opens K.reads self.now (length place.old)).good checked shards.old verdicts.old) }
     {
-        let count = self.gather(place.len(), shards, checked, verdicts)?;
+        let limit = place.len();
+        let count = gather(
+            self.hash,
+            self.scheme,
+            self.commitment,
+            limit,
+            shards,
+            checked,
+            verdicts,
+        )?;
         if count < usize::from(self.commitment.config().minimum) {
             return Some(Outcome::Insufficient(count));
         }

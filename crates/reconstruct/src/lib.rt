@@ -3,5 +3,6 @@
 
 pub mod coder;
 pub mod error;
+pub mod gather;
 mod keep;
 pub mod outcome;

@@ -24,7 +24,7 @@ returns g c =
     let t = terms_of g.D.Hash.digest g.S.Scheme.good g.S.Scheme.opens g.K.Kind.reads c.args.self.now (length c.args.place.now) in
     let m : c.from.result ≡ t.minimum = c.from.ensures ∙ ap (λ (f : Config). f.minimum) c.config.ensures in
     let ends = ends_decoded t c.args.checked c.args.shards.now (length c.args.verdicts.now) c.in_ok-count.count x.counts (subst (λ (n : ℕ). n ≤ c.in_ok-count.count) m c.if-count-from.false) in
-    let opened : c.open.result ≡ block_in t (all t c.args.checked c.args.shards.now) = simp x.gathers at c.open.ensures.gives in
+    let opened : c.open.result ≡ block_in t (all t.good c.args.checked c.args.shards.now) = simp x.gathers at c.open.ensures.gives in
     record {
       gives = ap (λ r. Some (Decoded r)) opened ∙ ends.0;
       writes = simp x.gathers at c.open.ensures.writes ∙ ends.1 c.args.place.now;
