@@ -5,7 +5,7 @@ ghost use Rattle.block.specs.Heads.{head_of};
 use register::counters::Height;
 use register::words::read_u64;
 
-#[derive(Clone, Copy, PartialEq, Eq)]
+#[derive(Clone, Copy, Debug, PartialEq, Eq)]
 pub struct Head {
     pub context_len: usize,
     pub height: Height,

@@ -1,4 +1,5 @@
-// The functions of `exports`, in a static library under the same names: thin, and nothing else.
+// The functions of `exports`, in a static library under the same names: thin, and nothing else. They stand twice, since a
+// crate is a library or a static library, and C calls each hash by a name of its own.
 #![tactic(auto)]
 
 ghost use Rattle.std.specs.Prelude.{◌≡◌, ◌==◌, ◌++◌, length, if◌then◌else◌};

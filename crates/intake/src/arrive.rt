@@ -16,7 +16,8 @@ use record::slot::Slot;
 use register::commitment::Commitment;
 use scheme::piece::Piece;
 
-// What a record is filed under, where its shards lie, and the largest blob's length.
+// What a record is filed under, where its shards lie, and the largest blob's length. The record and the shards are lent
+// beside it: a struct that holds a `&mut` needs a clause on its ghost name in each contract, and is no plainer.
 #[derive(Clone, Copy)]
 pub struct Home<'a> {
     pub commitment: &'a Commitment,

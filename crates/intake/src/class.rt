@@ -16,7 +16,7 @@ pub struct Arrival<'a> {
     pub shard: Piece<'a>,
 }
 
-#[derive(Clone, Copy)]
+#[derive(Clone, Copy, Debug, PartialEq, Eq)]
 pub enum Class {
     // the one that this node waits for
     Assigned,
@@ -26,7 +26,7 @@ pub enum Class {
 }
 
 // A record's phase: shards are gathered until the block is cached.
-#[derive(Clone, Copy)]
+#[derive(Clone, Copy, Debug, PartialEq, Eq)]
 pub enum Stage {
     Awaiting,
     Cached,
@@ -48,8 +48,7 @@ impl Stage {
 pub fn led_by(rec: &Record, key: &Key) -> bool
     ensures { result ≡ leads (leader_of rec.now) key.now.bytes }
 {
-    rec.leader()
-        .is_some_and(|leader| leader.as_bytes() == key.as_bytes())
+    rec.leader() == Some(key)
 }
 
 // `place` is the sender's index.

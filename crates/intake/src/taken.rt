@@ -2,13 +2,13 @@
 use model::answer::Reason;
 
 // What goes out once the assigned shard is verified.
-#[derive(Clone, Copy)]
+#[derive(Clone, Copy, Debug, PartialEq, Eq)]
 pub enum Act {
     Broadcast,
     Ready,
 }
 
-#[derive(Clone, Copy)]
+#[derive(Clone, Copy, Debug, PartialEq, Eq)]
 pub struct Taken {
     pub report: Option<Reason>,
     pub action: Option<Act>,

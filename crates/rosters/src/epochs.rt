@@ -15,6 +15,7 @@ use table::{Entry, Refusal};
 #[derive(Clone, Copy)]
 pub struct Row {
     epoch: Epoch,
+    // no Option of the members, since they stay filed while the epoch is unknown
     known: bool,
     members: Members,
 }

@@ -35,6 +35,7 @@ pub trait Scheme {
         if shards.len() > verdicts.len() {
             return Err(NoRoom);
         }
+        // No `verdicts.iter_mut().zip(shards)`: no invariant of that loop can name the slice that is written.
         for (i, shard) in shards.iter().enumerate() {
             verdicts[i] = self.check(hash, coding, limit, *shard);
         }
