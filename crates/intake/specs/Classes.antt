@@ -2,7 +2,7 @@
 use Rattle.std.specs.Prelude.{ℕ, ◌<◌, Bool, true, false, List, Some, None, Option}
 use Rattle.scheme.specs.Pieces.{Indexed}
 use Rattle.model.specs.Intake as model
-use Rattle.model.specs.Intake.{Action, broadcast, ready, assigned, owned, stray}
+use Rattle.model.specs.Intake.{Action, broadcast, ready, assigned, dropped, owned, rejected, stray}
 use Rattle.record.specs.Joins.{Elsewhere}
 use Rattle.record.specs.Sound.{SameJob, Sound}
 use Rattle.record.specs.Views.{Memory, view}
@@ -15,6 +15,7 @@ use Rattle.intake.specs.declared.class.Stage.TheVariants.{Awaiting, Cached}
 use Rattle.intake.specs.declared.taken.Act.{Act}
 use Rattle.intake.specs.declared.taken.Act.TheVariants.{Broadcast, Ready}
 use Rattle.intake.specs.declared.taken.Taken.{Taken}
+use Rattle.intake.specs.declared.taken.Taken.TheVariants.{Dropped, Rejected, Gained}
 
 abbrev pub class_of : Class → model.Class
 class_of Assigned = assigned
@@ -37,8 +38,10 @@ bytes_of s = s.bytes
 
 -- the record as it is then, with what the call tells of the shard s
 abbrev pub taken_as : Memory → List ℕ → ℕ → Record → Taken → Indexed → model.Taken
-taken_as at c slot r t s =
-    record { rec = view at c slot r; report = t.report; action = action_of t.action s; gained = t.gained }
+taken_as at c slot r Dropped s = dropped (view at c slot r)
+taken_as at c slot r (Rejected reason) s = rejected reason (view at c slot r)
+taken_as at c slot r (Gained action) s =
+    record { rec = view at c slot r; report = None; action = action_of action s; gained = true }
 
 -- the record can be read and has room as before; its job and other slots' places are as they were
 pub record Kept (slot : Slot) (r s : Record) (before after : List ℕ) : Type 0 where

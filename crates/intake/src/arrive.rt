@@ -1,5 +1,5 @@
 // A shard that arrives at its record, in the order of the rules.
-ghost use Rattle.std.specs.Prelude.{◌≡◌, ◌<◌, ◌≤◌, true, false, length, IfSome, IfNone, if◌then◌else◌, Some, None, slice_index_or};
+ghost use Rattle.std.specs.Prelude.{◌≡◌, ◌<◌, ◌≤◌, false, length, IfSome, IfNone, if◌then◌else◌, slice_index_or};
 ghost use Rattle.intake.specs.Classes.{Kept};
 ghost use Rattle.intake.specs.Steps.{Fitting, Follows, Settles, arrives_as, arrives_from, checked, good_in, shard_of};
 ghost use Rattle.model.specs.Intake.{assigned as toAssigned, dropped, owned as toOwned, unless_contributed};
@@ -17,37 +17,13 @@ use register::commitment::Commitment;
 use scheme::piece::Piece;
 
 // What a record is filed under, where its shards lie, and the largest blob's length. The record and the shards are lent
-// beside it: a struct that holds a `&mut` needs a clause on its ghost name in each contract, and is no plainer.
+// beside it: a struct that holds a `&mut` needs a clause on its ghost name in each contract, and is no plainer. So is the
+// node: with it this is a `Home<'a, N>`, and `settled` and `arrive_owned`, which ask no node, get its parameter.
 #[derive(Clone, Copy)]
 pub struct Home<'a> {
     pub commitment: &'a Commitment,
     pub slot: Slot,
     pub limit: usize,
-}
-
-const DROPPED: Taken = Taken {
-    report: None,
-    action: None,
-    gained: false,
-};
-
-fn rejected(reason: Reason) -> Taken
-    ensures { result ≡ record { report = Some reason; action = None; gained = false } }
-{
-    Taken {
-        report: Some(reason),
-        ..DROPPED
-    }
-}
-
-fn gained(action: Option<Act>) -> Taken
-    ensures { result ≡ record { report = None; action = action; gained = true } }
-{
-    Taken {
-        action,
-        gained: true,
-        ..DROPPED
-    }
 }
 
 // The assigned shard is checked at once: a bad one is not kept.
@@ -64,7 +40,7 @@ pub fn check_assigned<N: Node>(
     ensures kept { Kept home.entry.slot rec.old rec.new shards.old shards.new }
 {
     if !node.check(home.commitment, home.limit, arrival.shard) {
-        return rejected(Reason::BadAssigned);
+        return Taken::Rejected(Reason::BadAssigned);
     }
     rec.verify(shards, home.slot, arrival.shard);
     let action = if arrival.own.is_some() {
@@ -72,7 +48,7 @@ pub fn check_assigned<N: Node>(
     } else {
         Act::Ready
     };
-    gained(Some(action))
+    Taken::Gained(Some(action))
 }
 
 // Before the block: what was received at the index, or that it has contributed, ends intake.
@@ -84,12 +60,12 @@ pub fn settled(rec: &Record, home: Home<'_>, shards: &[u8], shard: Piece<'_>) ->
 {
     if let Some(bytes) = received(rec, shards, home.slot, shard.index) {
         return Some(if bytes == shard.bytes {
-            DROPPED
+            Taken::Dropped
         } else {
-            rejected(Reason::Equivocation)
+            Taken::Rejected(Reason::Equivocation)
         });
     }
-    rec.contributed[shard.index as usize].then_some(DROPPED)
+    rec.contributed[shard.index as usize].then_some(Taken::Dropped)
 }
 
 // Before the block: the sender's own shard waits for a job, and is not checked: so which are good does not matter.
@@ -103,7 +79,7 @@ fn arrive_owned(rec: &mut Record, home: Home<'_>, shards: &mut [u8], arrival: Ar
         return taken;
     }
     rec.wait(shards, home.slot, arrival.sender, arrival.shard);
-    gained(None)
+    Taken::Gained(None)
 }
 
 // Before the block: the assigned shard is checked, unless one is verified; then it waits as any.
@@ -122,10 +98,10 @@ fn arrive_assigned<N: Node>(
     if rec.verified {
         return arrive_owned(rec, home, shards, arrival);
     }
-    match settled(rec, home, shards, arrival.shard) {
-        Some(taken) => taken,
-        None => check_assigned(rec, node, home, shards, arrival),
+    if let Some(taken) = settled(rec, home, shards, arrival.shard) {
+        return taken;
     }
+    check_assigned(rec, node, home, shards, arrival)
 }
 
 // After the block only the assigned shard is looked at, until one is verified.
@@ -141,7 +117,7 @@ fn arrive_late<N: Node>(
     ensures kept { Kept home.entry.slot rec.old rec.new shards.old shards.new }
 {
     if rec.contributed[arrival.shard.index as usize] || rec.verified {
-        return DROPPED;
+        return Taken::Dropped;
     }
     check_assigned(rec, node, home, shards, arrival)
 }
@@ -163,15 +139,15 @@ pub fn intake<N: Node>(
     ensures kept { Kept home.entry.slot rec.old rec.new shards.old shards.new }
 {
     let Some(place) = place else {
-        return rejected(Reason::Stranger);
+        return Taken::Rejected(Reason::Stranger);
     };
     let class = classify(rec, arrival, place);
     match (Stage::of(rec), class) {
-        (_, Class::Stray) if rec.leader().is_some() => rejected(Reason::WrongIndex),
-        (_, Class::Stray) => DROPPED,
+        (_, Class::Stray) if rec.leader().is_some() => Taken::Rejected(Reason::WrongIndex),
+        (_, Class::Stray) => Taken::Dropped,
         (Stage::Awaiting, Class::Assigned) => arrive_assigned(rec, node, home, shards, arrival),
         (Stage::Awaiting, Class::Owned) => arrive_owned(rec, home, shards, arrival),
         (Stage::Cached, Class::Assigned) => arrive_late(rec, node, home, shards, arrival),
-        (Stage::Cached, Class::Owned) => DROPPED,
+        (Stage::Cached, Class::Owned) => Taken::Dropped,
     }
 }

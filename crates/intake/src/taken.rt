@@ -9,8 +9,10 @@ pub enum Act {
 }
 
 #[derive(Clone, Copy, Debug, PartialEq, Eq)]
-pub struct Taken {
-    pub report: Option<Reason>,
-    pub action: Option<Act>,
-    pub gained: bool,
+pub enum Taken {
+    Dropped,
+    // the sender is reported
+    Rejected(Reason),
+    // the record has a shard more
+    Gained(Option<Act>),
 }

@@ -1,4 +1,5 @@
-// Memory in places of one size: byte strings lie at the front of their places and never move.
+// Memory in places of one size: byte strings lie at the front of their places and never move. Memory, size and place are
+// parameters and no struct, since the memory is lent by a C caller beside a plain struct.
 #![tactic(auto)]
 
 ghost use Rattle.std.specs.Prelude.{◌≡◌, ℕ, ◌+◌, ◌*◌, ◌≤◌, ◌≢◌, length, take, drop};

@@ -11,7 +11,7 @@ pub fn file<E: Entry + Drop>(entries: &mut [E], count: usize, entry: E) -> usize
     ensures behind { drop (count + 1) entries.new ≡ drop (count + 1) entries.old }
     ensures count { (count ≤ result) × (result ≤ count + 1) }
 {
-    // No plainer as `count + usize::from(table::insert(entries, count, entry).is_ok())`.
+    // `count + usize::from(table::insert(entries, count, entry).is_ok())` is no plainer.
     match table::insert(entries, count, entry) {
         Ok(_) => count + 1,
         Err(_) => count,

@@ -3,7 +3,8 @@ ghost use Rattle.std.specs.Prelude.{◌≡◌, ℕ, ◌≤◌};
 
 use register::ordered::Index;
 
-// A slot by its number: it has 64 places for shards, of `width` bytes each.
+// A slot by its number: it has 64 places for shards, of `width` bytes each. The memory itself is lent beside it: a struct
+// that holds a `&mut` needs a clause on its ghost name in each contract, and is no plainer.
 #[derive(Clone, Copy)]
 pub struct Slot {
     pub number: usize,
