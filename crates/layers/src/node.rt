@@ -21,8 +21,9 @@ pub trait Node {
     fn check(&self, commitment: &Commitment, limit: usize, shard: Piece<'_>) -> bool
         ensures { result ≡ good_for (meaning self.now) limit commitment.now.bytes (indexed shard.entry) };
 
-    // Checks the shards behind the first `checked`, and opens the good ones with those where they reach the minimum.
-    // None, with nothing changed, where there are not as many shards or no room for the verdicts.
+    // Checks the shards behind the first `checked`, and opens the good ones with those where they reach the minimum. None,
+    // with nothing changed, where there are not as many shards or no room for the verdicts. `checked` is a count into
+    // `shards`, and not a slice of its own, since the good ones must end up next to the checked ones to be opened together.
     fn rebuild(
         &self,
         commitment: &Commitment,

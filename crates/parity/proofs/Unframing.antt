@@ -1,6 +1,5 @@
 -- What the bytes of a frame are opened to, fault by fault. Assumes nothing.
 use Rattle.std.proofs.Common.{◌≡◌, ℕ, ◌+◌, ◌-◌, ◌*◌, ◌<◌, ◌≤◌, min, true, false, List, map, length, take, drop, Ok, Err, sym, ap, ◌∙◌, subst, arith, le-ltb, eq-eqb, le-leb}
-use Rattle.std.proofs.Math.Nat.{sub-zero}
 use Rattle.std.proofs.lemmas.Bool.{lt-leb}
 use Rattle.std.proofs.Math.Seq.{paste}
 use Rattle.std.proofs.lemmas.Nat.{mul-le}
@@ -65,9 +64,9 @@ pub evened : (limit k : ℕ) (ps : List (List ℕ)) (n w : ℕ) → n ≡ counte
 evened limit k ps n w c h e t o q = q ∙ simp (← c, le-ltb n k h, ← e, ← t)
 
 -- from the shards to their picks
-pub opens_picks : {X : Type 0} (f : X → List ℕ) (found : List X) (config : Config) (limit m : ℕ) (shards : List Indexed) (o : Opened) → true ≡ shaped config → m ≡ config.minimum → map f (take (config.minimum + 1) found) ≡ picks config.minimum shards → o ≡ opened limit (length (take (m + 1 - 0) found) - 1) (map f (take (m + 1 - 0) found)) → o ≡ parity_opens config limit shards
+pub opens_picks : {X : Type 0} (f : X → List ℕ) (found : List X) (config : Config) (limit m : ℕ) (shards : List Indexed) (o : Opened) → true ≡ shaped config → m ≡ config.minimum → map f (take (config.minimum + 1) found) ≡ picks config.minimum shards → o ≡ opened limit (length (take (m + 1) found) - 1) (map f (take (m + 1) found)) → o ≡ parity_opens config limit shards
 opens_picks f found config limit m shards o t e p q =
     let k : ℕ = config.minimum in
     let n : length (take (k + 1) found) ≡ k + 1 = sym (length-map (take (k + 1) found) f) ∙ ap length p ∙ length-map-range_with_len (pick (depth k) shards) 0 (k + 1) in
     let c : k + 1 - 1 ≡ k = omega arith in
-    q ∙ simp (sub-zero, e, n, c, p, ← t)
+    q ∙ simp (e, n, c, p, ← t)

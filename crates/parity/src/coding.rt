@@ -18,7 +18,7 @@ pub struct Parity;
 fn shaped(config: Config) -> bool
     ensures { result ≡ shaped config }
 {
-    config.extra == 1 && 1 <= config.minimum && config.minimum <= 63
+    config.extra == 1 && (1..=63).contains(&config.minimum)
 }
 
 impl Scheme for Parity {
@@ -51,6 +51,6 @@ impl Scheme for Parity {
             return Err(Fault::TooFew);
         }
         let found = picks(shards, config.minimum);
-        open(&found[0..usize::from(config.minimum) + 1], place)
+        open(&found[..=usize::from(config.minimum)], place)
     }
 }

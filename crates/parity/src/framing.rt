@@ -105,8 +105,8 @@ fn xor_from(picks: &[&[u8]], at: usize, out: &mut [u8])
     }
 }
 
-// Writes what `bytes` has from `at` on. Apart from `xor_from`: `fill(out, |k| bytes[at + k])`, over a function that both
-// could share, copies byte by byte.
+// Writes what `bytes` has from `at` on. `xor_from` over the one pick would do the same, but byte by byte, where
+// `copy_from_slice` copies at once.
 fn copy_from(bytes: &[u8], at: usize, out: &mut [u8])
     requires { at + length out.old ≤ length bytes.now }
     ensures { out.new ≡ take (length out.old) (drop at bytes.now) }

@@ -1,8 +1,8 @@
 // Opening picks: to the blob in them, or to the first fault.
-ghost use Rattle.std.specs.Prelude.{◌≡◌, ◌-◌, ◌<◌, ◌≤◌, map, length, drop};
+ghost use Rattle.std.specs.Prelude.{◌≡◌, ◌-◌, ◌<◌, ◌≤◌, map, length};
 ghost use Rattle.parity.specs.Framings.{framed_in};
 ghost use Rattle.parity.specs.Parities.{opened};
-ghost use Rattle.scheme.specs.Told.{told, wrote};
+ghost use Rattle.scheme.specs.Told.{Fits, Leaves, told};
 ghost use Rattle.tree.specs.Frames.{unframed};
 
 use crate::framing::Framing;
@@ -13,8 +13,8 @@ use tree::frame::piece_length;
 // Opens picks of one length. Nothing is written before the last fault is ruled out.
 fn unframe(framing: &Framing<'_>, place: &mut [u8]) -> Result<usize, Fault>
     ensures tells { told result place.new ≡ unframed (length place.old) (length framing.now.picks.now - 1) framing.now.width (framed_in framing.now) }
-    ensures within { wrote result ≤ length place.old }
-    ensures behind { drop (wrote result) place.new ≡ drop (wrote result) place.old }
+    ensures within { Fits result place.old }
+    ensures behind { Leaves result place.old place.new }
 {
     let width = framing.width;
     let pieces = framing.picks.len() - 1;
@@ -41,8 +41,8 @@ pub fn open(picks: &[&[u8]], place: &mut [u8]) -> Result<usize, Fault>
     requires some { 1 < length picks.now }
     requires few { length picks.now ≤ 64 }
     ensures tells { told result place.new ≡ opened (length place.old) (length picks.now - 1) (map (λ x. x.now) picks.now) }
-    ensures within { wrote result ≤ length place.old }
-    ensures behind { drop (wrote result) place.new ≡ drop (wrote result) place.old }
+    ensures within { Fits result place.old }
+    ensures behind { Leaves result place.old place.new }
 {
     if count(picks) < picks.len() - 1 {
         return Err(Fault::TooFew);

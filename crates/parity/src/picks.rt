@@ -1,4 +1,5 @@
-// The payloads that a list of shards is opened from: one for each index, empty where there is none.
+// The payloads that a list of shards is opened from: one for each index. An empty slice stands for no payload: in an
+// `Option<&[u8]>`, `Some(&[])` would be a second empty case, since the rules count an empty payload as none.
 ghost use Rattle.std.specs.Prelude.{◌≡◌, ◌+◌, ◌<◌, map, take};
 ghost use Rattle.parity.specs.Parities.{counted, even, pick, picks, width};
 ghost use Rattle.scheme.specs.Pieces.{indexed};
@@ -19,14 +20,15 @@ pub fn pick<'a>(shards: &[Piece<'a>], depth: u32, index: u16) -> &'a [u8]
         .unwrap_or(&[])
 }
 
-// The picks for the indices 0 to `last`, at the front.
+// The picks for the indices 0 to `last`, at the front. It answers 64 places, as many as there can be picks, since there is
+// no heap; those behind `last` are empty.
 pub fn picks<'a>(shards: &[Piece<'a>], last: u16) -> [&'a [u8]; 64]
     requires { last < 64 }
     ensures { map (λ x. x.now) (take (last + 1) result) ≡ picks last (map indexed shards.now) }
 {
     let levels = depth(u32::from(last));
     // By index: `array::from_fn(|i| if i <= usize::from(last) { pick(shards, levels, i as u16) } else { &[] })`
-    // is no plainer, and after it nothing is known of what a closure with a choice in it returned.
+    // says no more, and its closure has an `if` in it: what such a closure returned is not known afterwards.
     let mut found: [&'a [u8]; 64] = [&[]; 64];
     for index in 0..last + 1 {
         found[usize::from(index)] = pick(shards, levels, index);

@@ -31,12 +31,12 @@ impl<'a, D: Hash, S: Scheme, K: Kind> Coder<'a, D, S, K> {
     {
         let coding = Coding::of(self.commitment);
         let len = self.scheme.decode(self.hash, coding, shards, place)?;
-        let reading = fit(self.hash, self.kind, self.commitment, &place[..len])?;
-        Ok(reading)
+        Ok(fit(self.hash, self.kind, self.commitment, &place[..len])?)
     }
 
-    // Checks the pending shards, those behind the first `checked`, and opens the good ones with the checked ones where they
-    // reach the minimum. None, with nothing changed, where there are not as many shards or no room for the verdicts.
+    // Checks the shards behind the first `checked`, and opens the good ones with those where they reach the minimum. None,
+    // with nothing changed, where there are not as many shards or no room for the verdicts. `checked` is a count into
+    // `shards`, and not a slice of its own, since the good ones must end up next to the checked ones to be opened together.
     pub fn reconstruct(
         &self,
         shards: &mut [Piece<'_>],

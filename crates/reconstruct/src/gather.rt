@@ -11,8 +11,9 @@ use scheme::piece::Piece;
 use scheme::scheme::Scheme;
 
 // Checks the shards behind the first `checked`, moves the good ones up behind those, and counts all that stand there then.
-// None, with nothing changed, where there are not as many shards or no room for the verdicts. No method of `Coder`, since no
-// block kind is needed here.
+// None, with nothing changed, where there are not as many shards or no room for the verdicts. `checked` is a count into
+// `shards`, and not a slice of its own, since the good ones must end up next to the checked ones to be opened together. No
+// method of `Coder`: a method would ask every caller for a block kind.
 pub fn gather<D: Hash, S: Scheme>(
     hash: &D,
     scheme: &S,

@@ -7,7 +7,7 @@ use register::bytes::NoRoom;
 
 #[derive(Clone, Copy, Debug, PartialEq, Eq)]
 pub enum Fault {
-    TooFew,
+    TooFew = 1,
     Uneven,
     BadLength,
     Padding,
@@ -19,13 +19,7 @@ impl From<Fault> for u8 {
     ghost from_gives = { λ fault number. number ≡ fault_number fault };
 
     fn from(fault: Fault) -> u8 {
-        match fault {
-            Fault::TooFew => 1,
-            Fault::Uneven => 2,
-            Fault::BadLength => 3,
-            Fault::Padding => 4,
-            Fault::TooLong => 5,
-        }
+        fault as u8
     }
 }
 

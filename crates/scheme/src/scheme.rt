@@ -1,8 +1,8 @@
 // The scheme trait: its meaning is fixed by hash, config, coding root, the largest blob's length, and the bytes given.
-ghost use Rattle.std.specs.Prelude.{◌≡◌, ℕ, ◌≤◌, Bool, List, map, length, drop, is_ok, nat_le};
+ghost use Rattle.std.specs.Prelude.{◌≡◌, ℕ, Bool, List, map, length, is_ok, nat_le};
 ghost use Rattle.register.specs.declared.commitment.Config.{Config};
 ghost use Rattle.scheme.specs.Pieces.{Indexed, indexed, judged};
-ghost use Rattle.scheme.specs.Told.{Opened, told, wrote};
+ghost use Rattle.scheme.specs.Told.{Fits, Leaves, Opened, told};
 
 use crate::coding::Coding;
 use crate::fault::Fault;
@@ -35,7 +35,8 @@ pub trait Scheme {
         if shards.len() > verdicts.len() {
             return Err(NoRoom);
         }
-        // No `verdicts.iter_mut().zip(shards)`: no invariant of that loop can name the slice that is written.
+        // By index: `verdicts` may be longer than `shards`, and no invariant of a loop over
+        // `verdicts[..shards.len()].iter_mut()` or `verdicts.iter_mut().zip(shards)` can name what that loop wrote.
         for (i, shard) in shards.iter().enumerate() {
             verdicts[i] = self.check(hash, coding, limit, *shard);
         }
@@ -51,6 +52,6 @@ pub trait Scheme {
         place: &mut [u8],
     ) -> Result<usize, Fault>
         ensures tells { told result place.new ≡ opens self.now (D.Hash.digest hash.now) coding.entry.config coding.entry.root.now (length place.old) (map indexed shards.now) }
-        ensures within { wrote result ≤ length place.old }
-        ensures behind { drop (wrote result) place.new ≡ drop (wrote result) place.old };
+        ensures within { Fits result place.old }
+        ensures behind { Leaves result place.old place.new };
 }
