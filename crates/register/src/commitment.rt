@@ -32,13 +32,15 @@ impl TryFrom<&[u8]> for Commitment {
 
     fn try_from(bytes: &[u8]) -> Result<Commitment, Malformed> {
         let bytes = <[u8; 100]>::try_from(bytes).map_err(|_| Malformed::Length)?;
-        if bytes[96] == 0 && bytes[97] == 0 {
+        let commitment = Commitment { bytes };
+        let config = commitment.config();
+        if config.minimum == 0 {
             return Err(Malformed::ZeroMinimum);
         }
-        if bytes[98] == 0 && bytes[99] == 0 {
+        if config.extra == 0 {
             return Err(Malformed::ZeroExtra);
         }
-        Ok(Commitment { bytes })
+        Ok(commitment)
     }
 }
 
@@ -78,7 +80,7 @@ impl Commitment {
         Config { minimum, extra }
     }
 
-    // The derived order is that of the bytes.
+    // The derived order is that of the bytes. Kept as a promise: it says which order the derived one is.
     #[tactic(auto, using(crate::specs::ByteOrder::slice_order))]
     pub fn compare(&self, other: &Commitment) -> Ordering
         ensures { result ≡ order self.now.bytes other.now.bytes }
