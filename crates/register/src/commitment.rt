@@ -1,9 +1,10 @@
 // A commitment: what a block is filed under, in 100 bytes.
-ghost use Rattle.std.specs.Prelude.{◌≡◌};
-ghost use Rattle.register.specs.Commitments.{block_of, bytes_in, committed, config_of, context_of, root_of};
+ghost use Rattle.std.specs.Prelude.{◌≡◌, Some};
+ghost use Rattle.register.specs.Commitments.{block_of, bytes_in, committed, config_of, context_of, malformed_text, root_of};
 ghost use Rattle.register.specs.Order.{order};
 
 use std::cmp::Ordering;
+use std::fmt;
 
 #[derive(Clone, Copy, PartialEq, Eq, PartialOrd, Ord, Debug)]
 pub struct Commitment {
@@ -23,6 +24,18 @@ pub enum Malformed {
     Length,
     ZeroMinimum,
     ZeroExtra,
+}
+
+impl fmt::Display for Malformed {
+    ghost output = { λ malformed. Some (malformed_text malformed) };
+
+    fn fmt<W: fmt::Write>(&self, f: &mut fmt::Formatter<W>) -> fmt::Result {
+        f.write_str(match self {
+            Malformed::Length => "a commitment has 100 bytes",
+            Malformed::ZeroMinimum => "the commitment's minimum is zero",
+            Malformed::ZeroExtra => "the commitment's extra is zero",
+        })
+    }
 }
 
 impl TryFrom<&[u8]> for Commitment {
