@@ -6,7 +6,8 @@ ghost use Rattle.choice.specs.Names.{Named};
 #[derive(Clone, Copy, Debug, PartialEq, Eq)]
 pub struct UnknownName;
 
-// What is chosen by a name from a few, of which no two share one.
+// What is chosen by a name from a few, of which no two share a name. FromStr and Display stand three times, once for each choice,
+// since `impl<C: Choice> FromStr for C` is refused, as in Rust.
 pub trait Choice: Copy + 'static {
     ghost name_of: { Self → List ℕ };
 

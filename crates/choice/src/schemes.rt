@@ -1,4 +1,4 @@
-// The scheme that was chosen, which is a scheme.
+// The scheme that was chosen.
 ghost use Rattle.choice.specs.Choices.{good_by, opens_by};
 ghost use Rattle.choice.specs.Names.{scheme_name, Named};
 ghost use Rattle.std.proofs.Common.{rules};

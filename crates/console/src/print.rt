@@ -79,6 +79,8 @@ pub fn print_outcome(
             println!(rt; "not opened: {good} good, and the minimum is {minimum}")?;
             Ok(())
         }
+        // No `Display` of `Error` in reconstruct: these words are the derived `Debug`'s, which states no bytes, so a `ghost output`
+        // there would spell each fault's name again.
         Outcome::Decoded(Err(Error::Coding(fault))) => {
             println!(rt; "fault: Coding({fault:?} {})", u8::from(fault))?;
             Ok(())

@@ -44,7 +44,7 @@ fn tell(rt: &HostRuntime, title: &str, text: &str) -> anyhow::Result<()> {
     Ok(())
 }
 
-// Files that hold a commitment which is cut off, or has the config `config`.
+// Makes one file, whose commitment ends in `config`.
 fn tell_config(rt: &HostRuntime, title: &str, config: &str) -> anyhow::Result<()> {
     let text = format!(in rt.alloc();
         "# a comment\n\n{COMMITMENT} {config}\nshard 65535 bob 00ffAB\n"

@@ -1,5 +1,5 @@
 -- A commitment: block digest, coding root and context digest, 32 bytes each, then minimum and extra, two bytes each. Assumes nothing.
-use Rattle.std.specs.Prelude.{ℕ, ◌+◌, cond, List, length, take, drop, Ok, Err, Result, ◌==◌}
+use Rattle.std.specs.Prelude.{ℕ, ◌+◌, codes, cond, List, length, take, drop, Ok, Err, Result, ◌==◌}
 use Rattle.register.specs.declared.commitment.Commitment.{Commitment}
 use Rattle.register.specs.declared.commitment.Config.{Config}
 use Rattle.register.specs.declared.commitment.Malformed.{Malformed}
@@ -37,3 +37,9 @@ committed bytes =
 abbrev pub bytes_in : Result Commitment Malformed → Result (List ℕ) Malformed
 bytes_in (Ok c) = Ok c.bytes
 bytes_in (Err e) = Err e
+
+-- what a person is told
+abbrev pub malformed_text : Malformed → List ℕ
+malformed_text Length = codes "a commitment has 100 bytes"
+malformed_text ZeroMinimum = codes "the commitment's minimum is zero"
+malformed_text ZeroExtra = codes "the commitment's extra is zero"

@@ -20,7 +20,7 @@ pub fn write_front(place: &mut [u8], bytes: &[u8]) -> Result<(), NoRoom>
     Ok(())
 }
 
-// As unsigned bytes from the first; it ends at the first pair that differs.
+// As unsigned bytes from the first; it ends at the first pair that differs. Kept as a promise: it says which order that of slices is.
 #[tactic(auto, using(crate::specs::ByteOrder::slice_order))]
 pub fn compare(a: &[u8], b: &[u8]) -> Ordering
     ensures { result ≡ order a.now b.now }

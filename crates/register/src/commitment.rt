@@ -1,9 +1,10 @@
 // A commitment: what a block is filed under, in 100 bytes.
-ghost use Rattle.std.specs.Prelude.{◌≡◌};
-ghost use Rattle.register.specs.Commitments.{block_of, bytes_in, committed, config_of, context_of, root_of};
+ghost use Rattle.std.specs.Prelude.{◌≡◌, Some};
+ghost use Rattle.register.specs.Commitments.{block_of, bytes_in, committed, config_of, context_of, malformed_text, root_of};
 ghost use Rattle.register.specs.Order.{order};
 
 use std::cmp::Ordering;
+use std::fmt;
 
 #[derive(Clone, Copy, PartialEq, Eq, PartialOrd, Ord, Debug)]
 pub struct Commitment {
@@ -25,6 +26,18 @@ pub enum Malformed {
     ZeroExtra,
 }
 
+impl fmt::Display for Malformed {
+    ghost output = { λ malformed. Some (malformed_text malformed) };
+
+    fn fmt<W: fmt::Write>(&self, f: &mut fmt::Formatter<W>) -> fmt::Result {
+        f.write_str(match self {
+            Malformed::Length => "a commitment has 100 bytes",
+            Malformed::ZeroMinimum => "the commitment's minimum is zero",
+            Malformed::ZeroExtra => "the commitment's extra is zero",
+        })
+    }
+}
+
 impl TryFrom<&[u8]> for Commitment {
     type Error = Malformed;
 
@@ -32,13 +45,15 @@ impl TryFrom<&[u8]> for Commitment {
 
     fn try_from(bytes: &[u8]) -> Result<Commitment, Malformed> {
         let bytes = <[u8; 100]>::try_from(bytes).map_err(|_| Malformed::Length)?;
-        if bytes[96] == 0 && bytes[97] == 0 {
+        let commitment = Commitment { bytes };
+        let config = commitment.config();
+        if config.minimum == 0 {
             return Err(Malformed::ZeroMinimum);
         }
-        if bytes[98] == 0 && bytes[99] == 0 {
+        if config.extra == 0 {
             return Err(Malformed::ZeroExtra);
         }
-        Ok(Commitment { bytes })
+        Ok(commitment)
     }
 }
 
@@ -78,7 +93,7 @@ impl Commitment {
         Config { minimum, extra }
     }
 
-    // The derived order is that of the bytes.
+    // The derived order is that of the bytes. Kept as a promise: it says which order the derived one is.
     #[tactic(auto, using(crate::specs::ByteOrder::slice_order))]
     pub fn compare(&self, other: &Commitment) -> Ordering
         ensures { result ≡ order self.now.bytes other.now.bytes }

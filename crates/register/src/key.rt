@@ -33,7 +33,7 @@ impl Key {
         &self.bytes
     }
 
-    // The derived order is that of the bytes.
+    // The derived order is that of the bytes. Kept as a promise: it says which order the derived one is.
     #[tactic(auto, using(crate::specs::ByteOrder::slice_order))]
     pub fn compare(&self, other: &Key) -> Ordering
         ensures { result ≡ order self.now.bytes other.now.bytes }

@@ -9,6 +9,9 @@ fn array_at<const N: usize>(bytes: &[u8], at: usize) -> Option<[u8; N]>
     bytes.get(at..)?.first_chunk::<N>().copied()
 }
 
+// Three names over the one `array_at`: no trait of std has `from_be_bytes`, and with a trait of ours three impls would stand for
+// three functions. `array_at` refuses what is not there, where that of hash asks its caller for it.
+
 // The number in the two bytes at `at`, if they are there.
 pub fn read_u16(bytes: &[u8], at: usize) -> Option<u16>
     ensures { result ≡ word? bytes.now at 2 }

@@ -30,7 +30,8 @@ impl Entry for Row {
     }
 }
 
-// The rows are an array and a count, since there is no heap.
+// The rows are an array and a count, since there is no heap; nor is a list type of N shared with the members, since a `Copy`
+// struct has a model only where that gives its fields back.
 #[derive(Clone, Copy)]
 pub struct Table {
     rows: [Row; 16],
@@ -43,9 +44,7 @@ impl Table {
         ensures rows { rows_of result ≡ [] }
         ensures count { result.count ≡ 0 }
     {
-        let Ok(members) = Members::new(&[], None) else {
-            unreachable()
-        };
+        let members = Members::new(&[], None).unwrap();
         let row = Row {
             epoch: Epoch(0),
             known: false,

@@ -5,7 +5,8 @@ ghost use Rattle.rosters.specs.Sound.{Few, all_bytes, ascending, index, sound};
 use crate::fault::Fault;
 use register::key::Key;
 
-// The keys are an array and a count, since there is no heap.
+// The keys are an array and a count, since there is no heap; nor is a list type of N shared with the table of epochs, since a
+// `Copy` struct has a model only where that gives its fields back.
 #[derive(Clone, Copy)]
 pub struct Members {
     keys: [Key; 64],

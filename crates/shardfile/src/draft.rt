@@ -5,6 +5,7 @@ ghost use Rattle.shardfile.specs.Settled.{Settled};
 
 use crate::file::{Arrival, Complaint};
 use crate::hex::push_hex;
+use crate::parse::LIMIT;
 use choice::hashes::HashChoice;
 use choice::kinds::KindChoice;
 use choice::names::UnknownName;
@@ -56,12 +57,12 @@ fn settle<T: Drop>(place: &mut Option<T>, value: Result<T, UnknownName>) -> Resu
     Ok(())
 }
 
-// The limit on a blob: 1 to 16,384 bytes.
+// The limit on a blob: 1 to `LIMIT` bytes.
 fn limit_of(word: &str) -> Result<usize, Complaint>
     ensures { IfOk result (λ n. (1 ≤ n) × (n ≤ 16384)) }
 {
     let limit = word.parse()?;
-    if (1..=16384).contains(&limit) {
+    if (1..=LIMIT).contains(&limit) {
         Ok(limit)
     } else {
         Err(Complaint::LimitRange)

@@ -1,6 +1,6 @@
 // What a shard file holds, and what can be wrong with one.
 ghost use Rattle.std.specs.Prelude.{◌≡◌};
-ghost use Rattle.shardfile.specs.declared.file.Complaint.TheVariants.{Memory};
+ghost use Rattle.shardfile.specs.declared.file.Complaint.TheVariants.{Memory, NotANumber};
 
 use choice::hashes::HashChoice;
 use choice::kinds::KindChoice;
@@ -47,7 +47,7 @@ pub enum Complaint {
     NotANumber,
     #[error("the limit is 1 to 16384")]
     LimitRange,
-    #[error("{}", malformed(.0))]
+    #[error("{0}")]
     Commitment(#[from] Malformed),
     #[error("this was given before")]
     Twice,
@@ -65,16 +65,10 @@ pub struct LineFault {
     pub complaint: Complaint,
 }
 
-fn malformed(commitment: &Malformed) -> &'static str {
-    match commitment {
-        Malformed::Length => "a commitment has 100 bytes",
-        Malformed::ZeroMinimum => "the commitment's minimum is zero",
-        Malformed::ZeroExtra => "the commitment's extra is zero",
-    }
-}
-
 // By hand: a `ParseIntError` is no `Copy`, so no case of a complaint can hold it.
 impl From<ParseIntError> for Complaint {
+    ghost from_gives = { λ _ complaint. complaint ≡ NotANumber };
+
     fn from(_error: ParseIntError) -> Complaint {
         Complaint::NotANumber
     }

@@ -6,8 +6,8 @@ use choice::kinds::KindChoice;
 use choice::schemes::SchemeChoice;
 use std::alloc::Global;
 
-// The limit where the file names none.
-const LIMIT: usize = 16384;
+// The largest limit, and the one where the file names none.
+pub(crate) const LIMIT: usize = 16384;
 
 fn finish(draft: Draft) -> Result<ShardFile, Complaint> {
     let Draft {

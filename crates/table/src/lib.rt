@@ -1,6 +1,7 @@
 // An ordered table over a lent slice: its entries are the first `count` of the slice, in ascending order of their keys.
-// Slice and count are two parameters, and no struct around them: who owns a table has it in a record for C as a plain array
-// and a count, since a C function takes no struct with type parameters, nor one that holds an enum.
+// Slice and count are two parameters, and no struct around them: a table's owner is one struct for C, whose fields are a plain
+// array and a count, and a C function takes no struct with type parameters. `find`, `get` and `first` take the count too, and no
+// slice that the caller cut, since a count above the length means the whole slice.
 #![tactic(auto)]
 
 mod key;
@@ -28,7 +29,8 @@ pub enum Refusal {
 }
 
 // The place of `key` among all entries of the slice. A chain, `position(|entry| entry.key() >= key)` and whether the key there
-// is equal, would compare that key twice.
+// is equal, would compare that key twice. Nor is it `binary_search_by`: the answer, `found`, holds of slices that do not ascend
+// too, and there a binary search answers otherwise.
 fn scan<E: Entry>(entries: &[E], key: &E::Key) -> Result<usize, usize>
     ensures within { MatchResult result (λ i. i < length entries.now) (λ i. i ≤ length entries.now) }
     ensures answer { result ≡ found E.Key.cmp E.named key.now entries.now }
