@@ -10,7 +10,7 @@ use std::marker::Model;
 // The bytes of a block: 1600 bits less the capacity of 512.
 const RATE: usize = 136;
 
-// A message in two parts, which are not joined in memory.
+// A message in two parts, which are not joined in memory. `Parts` of `sha256` has the padding as a third, in a buffer.
 #[derive(Drop)]
 struct Message<'a> {
     head: &'a [u8],
