@@ -10,7 +10,8 @@ use sha3::Sha3;
 use sha256::Sha256;
 
 // The digest of `first` followed by `second`, where `out` has 32 bytes; else false, and `out` stands as before.
-// Two slices and a bool, in place of a struct and an Option: C hands over the ones, and is handed the other.
+// C passes slices and reads a bool: it knows no Option. The two clauses stand in full at each function, and not in specs/:
+// whoever calls the function from C reads them there.
 fn digest_into<H: Hash>(hash: &H, first: &[u8], second: &[u8], out: &mut [u8]) -> bool
     ensures fits { result ≡ (length out.old == 32) }
     ensures after { out.new ≡ (if result then H.digest hash.now (first.now ++ second.now) else out.old) }

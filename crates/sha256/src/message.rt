@@ -35,7 +35,8 @@ fn block_words(block: &[u8]) -> [u32; 16]
     std::array::from_fn(|j| word_at(block, 4 * j))
 }
 
-// A message in two parts, and its padding. Contracts see the three joined.
+// A message in two parts, and its padding. Contracts see the three joined. No type for this and for the `Message` of `sha3`:
+// here the padding is bytes of a buffer, which a block may lie across; there each byte of it is computed from its place.
 #[derive(Drop)]
 pub struct Parts<'a> {
     first: &'a [u8],
@@ -89,6 +90,7 @@ impl<'a> Parts<'a> {
         ensures { result ≡ words (block i self.now) }
     {
         let at = 64 * i as u128;
+        // As in `gather`, and no method for both: contracts see the parts joined, so its own could not say where a part begins.
         let before_second = self.first.len() as u128;
         let before_padding = before_second + self.second.len() as u128;
         if at + 64 <= before_second {

@@ -76,7 +76,7 @@ fn theta_sums(a: [u64; 25]) -> [u64; 5]
     ensures { result ≡ map (D a) (range_with_len 0 5) }
 {
     let c = |x: usize| a[x] ^ a[x + 5] ^ a[x + 10] ^ a[x + 15] ^ a[x + 20];
-    // Five entries, and no `from_fn`, for its speed, as above.
+    // The five entries are written out: as in `lanes`, `array::from_fn` would make a loop that is not unrolled.
     let (c0, c1, c2, c3, c4) = (c(0), c(1), c(2), c(3), c(4));
     [
         c4 ^ c1.rotate_left(1),

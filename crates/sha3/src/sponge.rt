@@ -10,7 +10,7 @@ use std::marker::Model;
 // The bytes of a block: 1600 bits less the capacity of 512.
 const RATE: usize = 136;
 
-// A message in two parts, which are not joined in memory.
+// A message in two parts, which are not joined in memory. `Parts` of `sha256` has the padding as a third, in a buffer.
 #[derive(Drop)]
 struct Message<'a> {
     head: &'a [u8],
@@ -86,14 +86,14 @@ impl<'a> Message<'a> {
     }
 }
 
-// Adds the first block of the padded message to the state. A loop: by `from_fn(|l| if l < 17 { state[l] ^ message.lane(8 * l) }
+// Adds the first block of the padded message to the state. A loop: with `from_fn(|l| if l < 17 { state[l] ^ message.lane(8 * l) }
 // else { state[l] })`, which proves too, the hash was at 0.94 of its speed.
 fn absorb(state: [u64; 25], message: &Message<'_>) -> [u64; 25]
     ensures { result ≡ xored state (padded message.now) 0 }
 {
     let mut next = state;
-    for l in 0..17 {
-        next[l] ^= message.lane(8 * l);
+    for (l, lane) in next[..RATE / 8].iter_mut().enumerate() {
+        *lane ^= message.lane(8 * l);
     }
     next
 }

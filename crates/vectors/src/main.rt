@@ -84,6 +84,7 @@ fn run_case<D: Hash>(heap: Global, hash: &D, case: &Case<'_>) -> anyhow::Result<
 // Every case of the hash that the file calls `name`.
 fn run_cases<D: Hash>(heap: Global, hash: &D, name: &str, text: &str) -> anyhow::Result<Tally> {
     let mut tally = Tally::default();
+    // A `for`: two of its steps end the function by `?`, and the tally is added to in between.
     for line in text.lines().filter(|line| !line.starts_with('#')) {
         let case = parse_case(line).ok_or_else(|| anyhow!("a line of digests.txt is not a case"))?;
         if case.hash == name {

@@ -4,6 +4,6 @@ use Rattle.sha3.proofs.sponge.absorb.Given as goal
 
 abbrev pub invariant-loop-l : goal.invariant-loop-l
 invariant-loop-l l =
-    (length l.next ≡ 25)
-    × ((k : ℕ) → k < l.l → get_or l.next k 0 ≡ xored_lane l.initial.next (padded l.message) 0 k)
-    × ((k : ℕ) → l.l ≤ k → get_or l.next k 0 ≡ get_or l.initial.next k 0)
+    (length l.lane-items ≡ 17)
+    × ((k : ℕ) → k < l.l → get_or l.lane-items k 0 ≡ xored_lane l.fn.state (padded l.message) 0 k)
+    × ((k : ℕ) → l.l ≤ k → k < 17 → get_or l.lane-items k 0 ≡ get_or l.fn.state k 0)
