@@ -7,7 +7,7 @@ use table::Entry;
 // Puts the entry in, unless its key is there, and counts the entries.
 pub fn file<E: Entry + Drop>(entries: &mut [E], count: usize, entry: E) -> usize
     requires { count < length entries.old }
-    ensures table { take result entries.new ≡ put E.Key.cmp E.named entry (take count entries.old) }
+    ensures table { take result entries.new ≡ put E.Key.Ordered.order E.named entry (take count entries.old) }
     ensures behind { drop (count + 1) entries.new ≡ drop (count + 1) entries.old }
     ensures count { (count ≤ result) × (result ≤ count + 1) }
 {

@@ -12,7 +12,7 @@ ghost use Rattle.table.specs.Answers.{inserts, removes};
 ghost use Rattle.table.specs.Laws.{Ascends, FoundExactly, Laws, Tells, look};
 ghost use Rattle.table.specs.Table.{found, lowest, put, without};
 
-pub use key::{Entry, Exact};
+pub use key::{Entry, Exact, Ordered};
 use std::cmp::Ordering;
 
 // Why a table stays as it was.
@@ -33,11 +33,11 @@ pub enum Refusal {
 // too, and there a binary search answers otherwise.
 fn scan<E: Entry>(entries: &[E], key: &E::Key) -> Result<usize, usize>
     ensures within { MatchResult result (λ i. i < length entries.now) (λ i. i ≤ length entries.now) }
-    ensures answer { result ≡ found E.Key.cmp E.named key.now entries.now }
-    ensures entry { Tells E.Key.cmp E.named key.now entries.now result }
+    ensures answer { result ≡ found E.Key.Ordered.order E.named key.now entries.now }
+    ensures entry { Tells E.Key.Ordered.order E.named key.now entries.now result }
 {
     for (i, entry) in entries.iter().enumerate() {
-        match entry.key().cmp(key) {
+        match entry.key().compare(key) {
             Ordering::Less => {}
             Ordering::Equal => return Ok(i),
             Ordering::Greater => return Err(i),
@@ -57,15 +57,15 @@ fn held<E>(entries: &[E], count: usize) -> &[E]
 // The place of `key` in the table, or the place where it would go. A count above the length means the whole slice.
 pub fn find<E: Entry>(entries: &[E], count: usize, key: &E::Key) -> Result<usize, usize>
     ensures within { MatchResult result (λ i. (i < count) × (i < length entries.now)) (λ i. (i ≤ count) × (i ≤ length entries.now)) }
-    ensures answer { result ≡ found E.Key.cmp E.named key.now (take count entries.now) }
-    ensures entry { Tells E.Key.cmp E.named key.now (take count entries.now) result }
+    ensures answer { result ≡ found E.Key.Ordered.order E.named key.now (take count entries.now) }
+    ensures entry { Tells E.Key.Ordered.order E.named key.now (take count entries.now) result }
 {
     scan(held(entries, count), key)
 }
 
 // The entry of `key`.
 pub fn get<'a, E: Entry>(entries: &'a [E], count: usize, key: &E::Key) -> Option<&'a E>
-    ensures { option_map (λ x. x.now) result ≡ look E.Key.cmp E.named key.now (take count entries.now) }
+    ensures { option_map (λ x. x.now) result ≡ look E.Key.Ordered.order E.named key.now (take count entries.now) }
 {
     let table = held(entries, count);
     scan(table, key).ok().map(|place| &table[place])
@@ -80,10 +80,10 @@ pub fn first<E: Entry>(entries: &[E], count: usize) -> Option<&E>
 
 // Puts `entry` in its place, and gives that place: the table then has one entry more.
 pub fn insert<E: Entry + Drop>(entries: &mut [E], count: usize, entry: E) -> Result<usize, Refusal>
-    ensures answer { result ≡ inserts count (length entries.old) (found E.Key.cmp E.named (E.named entry) (take count entries.old)) }
+    ensures answer { result ≡ inserts count (length entries.old) (found E.Key.Ordered.order E.named (E.named entry) (take count entries.old)) }
     ensures within { IfOk result (λ i. (i ≤ count) × (count < length entries.old)) }
-    ensures table { MatchResult result (λ _. take (count + 1) entries.new ≡ put E.Key.cmp E.named entry (take count entries.old)) (λ _. entries.new ≡ entries.old) }
-    ensures ascends { Ascends E.Key.cmp E.named (take count entries.old) → Ascends E.Key.cmp E.named (take (if is_ok result then count + 1 else count) entries.new) }
+    ensures table { MatchResult result (λ _. take (count + 1) entries.new ≡ put E.Key.Ordered.order E.named entry (take count entries.old)) (λ _. entries.new ≡ entries.old) }
+    ensures ascends { Ascends E.Key.Ordered.order E.named (take count entries.old) → Ascends E.Key.Ordered.order E.named (take (if is_ok result then count + 1 else count) entries.new) }
     ensures behind { drop (count + 1) entries.new ≡ drop (count + 1) entries.old }
 {
     if count > entries.len() {
@@ -102,10 +102,10 @@ pub fn insert<E: Entry + Drop>(entries: &mut [E], count: usize, entry: E) -> Res
 
 // Takes the entry with `key` out, and gives the place that it had: the table then has one entry fewer, and that entry stands right behind it.
 pub fn remove<E: Entry>(entries: &mut [E], count: usize, key: &E::Key) -> Result<usize, Refusal>
-    ensures answer { result ≡ removes count (length entries.old) (found E.Key.cmp E.named key.now (take count entries.old)) }
+    ensures answer { result ≡ removes count (length entries.old) (found E.Key.Ordered.order E.named key.now (take count entries.old)) }
     ensures within { IfOk result (λ i. (i < count) × (count ≤ length entries.old)) }
-    ensures table { MatchResult result (λ _. take (count - 1) entries.new ≡ without E.Key.cmp E.named key.now (take count entries.old)) (λ _. entries.new ≡ entries.old) }
-    ensures ascends { Ascends E.Key.cmp E.named (take count entries.old) → Ascends E.Key.cmp E.named (take (if is_ok result then count - 1 else count) entries.new) }
+    ensures table { MatchResult result (λ _. take (count - 1) entries.new ≡ without E.Key.Ordered.order E.named key.now (take count entries.old)) (λ _. entries.new ≡ entries.old) }
+    ensures ascends { Ascends E.Key.Ordered.order E.named (take count entries.old) → Ascends E.Key.Ordered.order E.named (take (if is_ok result then count - 1 else count) entries.new) }
     ensures last { IfOk result (λ i. (d : E) → slice_index_or entries.new (count - 1) d ≡ slice_index_or entries.old i d) }
     ensures behind { drop count entries.new ≡ drop count entries.old }
 {
@@ -119,14 +119,14 @@ pub fn remove<E: Entry>(entries: &mut [E], count: usize, key: &E::Key) -> Result
 
 // What holds of every table, whatever its entries.
 pub fn laws_stand<E: Entry>()
-    ensures { Laws E.Key.cmp E.named }
+    ensures { Laws E.Key.Ordered.order E.named }
 {}
 
 // Where equal is the same key, what is found has the key that was asked for.
 pub fn keys_stand<E: Entry>()
 where
     E::Key: Exact,
-    ensures { FoundExactly E.Key.cmp E.named }
+    ensures { FoundExactly E.Key.Ordered.order E.named }
 {}
 
 #[cfg(test)]

@@ -1,4 +1,5 @@
 // A table of four slots, whose keys are 16-bit numbers.
+ghost use Rattle.std.specs.Ordering.{nat_cmp};
 ghost use Rattle.std.proofs.Common.{rules};
 
 use super::*;
@@ -32,6 +33,49 @@ fn entry(word: u16, value: u8) -> Pair {
         word: Word(word),
         value,
     }
+}
+
+// Ranks alone are compared, so two keys may be equal and yet differ: an order that `==` does not follow.
+#[derive(Clone, Copy, PartialEq, Eq)]
+struct Ranked {
+    rank: u16,
+    note: u16,
+}
+
+impl Ordered for Ranked {
+    ghost order = { λ a b. nat_cmp a.rank b.rank };
+
+    ghost reverses = { Prim.search rules };
+
+    ghost ascends = { Prim.search rules };
+
+    ghost ties = { Prim.search rules };
+
+    fn compare(&self, other: &Ranked) -> Ordering {
+        self.rank.cmp(&other.rank)
+    }
+}
+
+impl Entry for Ranked {
+    type Key = Ranked;
+
+    ghost named = { λ r. r };
+
+    fn key(&self) -> &Ranked {
+        self
+    }
+}
+
+#[test]
+fn equal_keys_may_differ(rt: HostRuntime) {
+    let mut ranks = [Ranked { rank: 1, note: 0 }; 2];
+    assert_eq!(rt; insert(&mut ranks, 0, Ranked { rank: 1, note: 7 }), Ok(0));
+    assert_eq!(rt;
+        insert(&mut ranks, 1, Ranked { rank: 1, note: 8 }),
+        Err(Refusal::Present)
+    );
+    assert_eq!(rt; find(&ranks, 1, &Ranked { rank: 1, note: 9 }), Ok(0));
+    assert_eq!(rt; ranks[0].note, 7);
 }
 
 #[test]

@@ -9,5 +9,5 @@ ahead n (Err i) = Err (n + i)
 
 abbrev pub invariant-loop-i : goal.invariant-loop-i
 invariant-loop-i g l =
-    let it = found g.E.Key.Ord.cmp g.E.Entry.named l.key in
+    let it = found g.E.Key.Ordered.order g.E.Entry.named l.key in
     ahead l.i (it (drop l.i l.entries)) ≡ it l.entries

@@ -6,4 +6,4 @@ use Rattle.record.proofs.filing.file.Goals as goal
 pub returns-in-Err-clause-table : goal.returns-in-Err-clause-table
 returns-in-Err-clause-table g c =
     let p = turned_down c.args.count (length c.args.entries.now) _ c.in-Err.field-0 c.requires c.in-Err.ensures.answer in
-    ap (take c.args.count) {x = c.insert.new.entries} c.in-Err.ensures.table ∙ sym (put_present g.E.Key.Ord.cmp g.E.Entry.named c.args.entry (take c.args.count c.args.entries.now) p.0 p.1)
+    ap (take c.args.count) {x = c.insert.new.entries} c.in-Err.ensures.table ∙ sym (put_present g.E.Key.Ordered.order g.E.Entry.named c.args.entry (take c.args.count c.args.entries.now) p.0 p.1)
