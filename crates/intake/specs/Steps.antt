@@ -28,11 +28,11 @@ good_in m h = good_for m h.limit h.commitment.now.bytes
 abbrev pub shard_of : Arrival → Indexed
 shard_of a = indexed a.shard
 
-module _ (good : Indexed → Bool) (a : Arrival) where
-  -- the assigned shard is checked at once
-  abbrev pub checked : Rec → model.Taken
-  checked r = checks (good (shard_of a)) a.own (shard_of a) r
+-- the assigned shard x is checked at once
+abbrev pub checked : (Indexed → Bool) → Option ℕ → Indexed → Rec → model.Taken
+checked good own x r = checks (good x) own x r
 
+module _ (good : Indexed → Bool) (a : Arrival) where
   -- it arrives at the record in its phase, as one of a class
   abbrev pub arrives_as : Class → Rec → model.Taken
   arrives_as class r = arrives good a.own a.sender.now.bytes (shard_of a) r r.phase class
@@ -41,11 +41,11 @@ module _ (good : Indexed → Bool) (a : Arrival) where
   abbrev pub arrives_from : Option ℕ → Rec → model.Taken
   arrives_from place r = from_member good a.own a.sender.now.bytes (shard_of a) r place
 
--- the record r becomes s, and the memory of shards `after`: with what the call tells, that is what the rule makes of the
--- model's record before
-abbrev pub Follows : Home → Arrival → Record → Record → List ℕ → List ℕ → Taken → (Rec → model.Taken) → Type 0
-Follows h a r s before after t rule =
-    (size : ℕ) (blobs : List ℕ) → taken_as (memory h.slot.width after size blobs) h.commitment.now.bytes h.slot.number s t (shard_of a) ≡ rule (view (memory h.slot.width before size blobs) h.commitment.now.bytes h.slot.number r)
+-- the record r becomes s, and the memory of shards `after`: with what the call tells of the shard x, that is what the rule
+-- makes of the model's record before
+abbrev pub Follows : Home → Indexed → Record → Record → List ℕ → List ℕ → Taken → (Rec → model.Taken) → Type 0
+Follows h x r s before after t rule =
+    (size : ℕ) (blobs : List ℕ) → taken_as (memory h.slot.width after size blobs) h.commitment.now.bytes h.slot.number s t x ≡ rule (view (memory h.slot.width before size blobs) h.commitment.now.bytes h.slot.number r)
 
 -- before the block: what ends intake of the shard x, where a received or contributed index does
 abbrev pub Settles : Home → Record → List ℕ → Indexed → Option Taken → Type 0

@@ -26,24 +26,25 @@ pub struct Home<'a> {
     pub limit: usize,
 }
 
-// The assigned shard is checked at once: a bad one is not kept.
+// The assigned shard is checked at once: a bad one is not kept. No `Arrival`, since it is the same whoever sent it.
 pub fn check_assigned<N: Node>(
     rec: &mut Record,
     node: &N,
     home: Home<'_>,
     shards: &mut [u8],
-    arrival: Arrival<'_>,
+    own: Option<u16>,
+    shard: Piece<'_>,
 ) -> Taken
     requires placed { Placed home.slot shards.old }
-    requires fits { OpenTo home.slot.width rec.old arrival.shard.index arrival.shard.bytes.now }
-    ensures takes { Follows home.entry arrival.entry rec.old rec.new shards.old shards.new result (checked (good_in (N.Node.meaning node.now) home.entry) arrival.entry) }
+    requires fits { OpenTo home.slot.width rec.old shard.index shard.bytes.now }
+    ensures takes { Follows home.entry (indexed shard.entry) rec.old rec.new shards.old shards.new result (checked (good_in (N.Node.meaning node.now) home.entry) own (indexed shard.entry)) }
     ensures kept { Kept home.entry.slot rec.old rec.new shards.old shards.new }
 {
-    if !node.check(home.commitment, home.limit, arrival.shard) {
+    if !node.check(home.commitment, home.limit, shard) {
         return Taken::Rejected(Reason::BadAssigned);
     }
-    rec.verify(shards, home.slot, arrival.shard);
-    let action = if arrival.own.is_some() {
+    rec.verify(shards, home.slot, shard);
+    let action = if own.is_some() {
         Act::Broadcast
     } else {
         Act::Ready
@@ -72,7 +73,7 @@ pub fn settled(rec: &Record, home: Home<'_>, shards: &[u8], shard: Piece<'_>) ->
 fn arrive_owned(rec: &mut Record, home: Home<'_>, shards: &mut [u8], arrival: Arrival<'_>) -> Taken
     requires fits { Fitting home.slot rec.old shards.old (indexed arrival.shard) }
     requires before { rec.old.cached ≡ false }
-    ensures takes { Follows home.entry arrival.entry rec.old rec.new shards.old shards.new result (arrives_as (λ _. false) arrival.entry toOwned) }
+    ensures takes { Follows home.entry (shard_of arrival.entry) rec.old rec.new shards.old shards.new result (arrives_as (λ _. false) arrival.entry toOwned) }
     ensures kept { Kept home.entry.slot rec.old rec.new shards.old shards.new }
 {
     if let Some(taken) = settled(rec, home, shards, arrival.shard) {
@@ -92,7 +93,7 @@ fn arrive_assigned<N: Node>(
 ) -> Taken
     requires fits { Fitting home.slot rec.old shards.old (indexed arrival.shard) }
     requires before { rec.old.cached ≡ false }
-    ensures takes { Follows home.entry arrival.entry rec.old rec.new shards.old shards.new result (arrives_as (good_in (N.Node.meaning node.now) home.entry) arrival.entry toAssigned) }
+    ensures takes { Follows home.entry (shard_of arrival.entry) rec.old rec.new shards.old shards.new result (arrives_as (good_in (N.Node.meaning node.now) home.entry) arrival.entry toAssigned) }
     ensures kept { Kept home.entry.slot rec.old rec.new shards.old shards.new }
 {
     if rec.verified {
@@ -101,7 +102,7 @@ fn arrive_assigned<N: Node>(
     if let Some(taken) = settled(rec, home, shards, arrival.shard) {
         return taken;
     }
-    check_assigned(rec, node, home, shards, arrival)
+    check_assigned(rec, node, home, shards, arrival.own, arrival.shard)
 }
 
 // After the block only the assigned shard is looked at, until one is verified.
@@ -113,13 +114,13 @@ fn arrive_late<N: Node>(
     arrival: Arrival<'_>,
 ) -> Taken
     requires { Fitting home.slot rec.old shards.old (indexed arrival.shard) }
-    ensures takes { Follows home.entry arrival.entry rec.old rec.new shards.old shards.new result (λ r. unless_contributed (shard_of arrival.entry) r (if r.verified then dropped r else checked (good_in (N.Node.meaning node.now) home.entry) arrival.entry r)) }
+    ensures takes { Follows home.entry (shard_of arrival.entry) rec.old rec.new shards.old shards.new result (λ r. unless_contributed (shard_of arrival.entry) r (if r.verified then dropped r else checked (good_in (N.Node.meaning node.now) home.entry) arrival.entry.own (shard_of arrival.entry) r)) }
     ensures kept { Kept home.entry.slot rec.old rec.new shards.old shards.new }
 {
     if rec.contributed[arrival.shard.index as usize] || rec.verified {
         return Taken::Dropped;
     }
-    check_assigned(rec, node, home, shards, arrival)
+    check_assigned(rec, node, home, shards, arrival.own, arrival.shard)
 }
 
 // Intake of a shard whose sender's index among the members is `place`.
@@ -135,13 +136,13 @@ pub fn intake<N: Node>(
     requires fits { length arrival.shard.bytes.now ≤ home.slot.width }
     requires member { IfSome place (λ i. i < 64) }
     requires own { IfSome arrival.own (λ i. i < 64) }
-    ensures takes { Follows home.entry arrival.entry rec.old rec.new shards.old shards.new result (arrives_from (good_in (N.Node.meaning node.now) home.entry) arrival.entry place) }
+    ensures takes { Follows home.entry (shard_of arrival.entry) rec.old rec.new shards.old shards.new result (arrives_from (good_in (N.Node.meaning node.now) home.entry) arrival.entry place) }
     ensures kept { Kept home.entry.slot rec.old rec.new shards.old shards.new }
 {
     let Some(place) = place else {
         return Taken::Rejected(Reason::Stranger);
     };
-    let class = classify(rec, arrival, place);
+    let class = classify(rec, arrival.own, arrival.sender, place, arrival.shard.index);
     match (Stage::of(rec), class) {
         (_, Class::Stray) if rec.leader().is_some() => Taken::Rejected(Reason::WrongIndex),
         (_, Class::Stray) => Taken::Dropped,

@@ -52,22 +52,23 @@ pub fn led_by(rec: &Record, key: &Key) -> bool
 }
 
 // `place` is the sender's index.
-fn assigned(rec: &Record, arrival: Arrival<'_>, place: u16) -> bool
-    ensures { result ≡ is_assigned arrival.entry.own (leader_of rec.now) arrival.entry.sender.now.bytes place arrival.entry.shard.index }
+fn assigned(rec: &Record, own: Option<u16>, sender: &Key, place: u16, index: u16) -> bool
+    ensures { result ≡ is_assigned own (leader_of rec.now) sender.now.bytes place index }
 {
-    match arrival.own {
-        Some(own) => arrival.shard.index == own,
-        None => led_by(rec, arrival.sender) && arrival.shard.index == place,
+    match own {
+        Some(own) => index == own,
+        None => led_by(rec, sender) && index == place,
     }
 }
 
-pub fn classify(rec: &Record, arrival: Arrival<'_>, place: u16) -> Class
-    ensures class { class_of result ≡ classed arrival.entry.own (leader_of rec.now) arrival.entry.sender.now.bytes place arrival.entry.shard.index }
-    ensures within { place < 64 → IfSome arrival.entry.own (λ i. i < 64) → Within result arrival.entry.shard.index }
+// No `Arrival`: of the shard only its index is asked for.
+pub fn classify(rec: &Record, own: Option<u16>, sender: &Key, place: u16, index: u16) -> Class
+    ensures class { class_of result ≡ classed own (leader_of rec.now) sender.now.bytes place index }
+    ensures within { place < 64 → IfSome own (λ i. i < 64) → Within result index }
 {
-    if assigned(rec, arrival, place) {
+    if assigned(rec, own, sender, place, index) {
         Class::Assigned
-    } else if arrival.shard.index == place {
+    } else if index == place {
         Class::Owned
     } else {
         Class::Stray
