@@ -1,8 +1,9 @@
 -- The padded message as three parts, and what a block of it is.
-use Rattle.std.proofs.Common.{◌≡◌, ℕ, ◌+◌, ◌-◌, ◌*◌, ◌/◌, ◌%◌, ◌^◌, ◌<◌, ◌≤◌, min, List, [], ◌∷◌, ◌++◌, length, take, drop, replicate, sym, refl, ap, ◌∙◌, ⊎_elim, div-one, arith}
-use Rattle.std.proofs.Math.Seq.{drop-append-add, take-append-add}
+use Rattle.std.proofs.Common.{◌≡◌, ℕ, ◌+◌, ◌-◌, ◌*◌, ◌/◌, ◌%◌, ◌^◌, ◌<◌, ◌≤◌, min, List, [], ◌∷◌, ◌++◌, length, take, drop, replicate, sym, refl, ap, ◌∙◌, ⊎_elim, add-one, div-one, arith}
+use Rattle.std.proofs.Math.Seq.{paste, drop-append-add, take-append-add}
 use Rattle.std.proofs.lemmas.Bool.{cases_lt}
 use Rattle.std.proofs.lemmas.List.{append_assoc, length-take-le, take-take, drop_all, drop-append-le, length-append, length-drop, length-replicate, take_all, take-append-le, take-replicate}
+use Rattle.std.proofs.lemmas.List.Edits.{take-paste}
 use Rattle.std.proofs.lemmas.Nat.{mod_below}
 use Rattle.std.proofs.lemmas.Slice.{take-put_mid}
 use borrow.Rule.Slice.PartMut.{put_mid}
@@ -31,22 +32,25 @@ zeros-below : (n : ℕ) → zeros n < 64
 unfolding zeros
 zeros-below n = mod_below (119 - n % 64) 64 (omega arith)
 
--- what three calls of `append` leave in a buffer of 72 bytes
-pub padding_is : (n : ℕ) {x₁ x₂ x₃ z f : List ℕ} → x₁ ≡ take 72 (0x80 ∷ []) → z ≡ take (zeros n) (replicate 64 0) → x₂ ≡ take 72 (x₁ ++ z)
-    → f ≡ bit_length n → x₃ ≡ take 72 (x₂ ++ f) → x₃ ≡ padding n
+abbrev start : List ℕ
+start = 0x80 ∷ replicate 71 0
+
+front_is : (z : ℕ) → z ≤ 71 → take (z + 1) start ≡ 0x80 ∷ replicate z 0
+front_is z h = simp add-one (ap (λ (t : List ℕ). 0x80 ∷ t) (take-replicate {X = ℕ} z 71 0 h))
+
+pub padding_is : (n : ℕ) {f : List ℕ} → f ≡ bit_length n → take (zeros n + 9) (paste start (zeros n + 1) f 8) ≡ padding n
 unfolding padding
-padding_is n {x₁} {x₂} {x₃} {z} {f} x₁-is z-is x₂-is f-is x₃-is =
+padding_is n {f} e =
     let below = zeros-below n in
-    let z₀ : z ≡ replicate (zeros n) 0 = z-is ∙ take-replicate {X = ℕ} (zeros n) 64 0 (omega arith) in
-    let long = length-padding n in
-    let front : x₂ ≡ 0x80 ∷ replicate (zeros n) 0 =
-    x₂-is ∙ ap (λ (x : List ℕ). take 72 (x ++ z)) x₁-is ∙ ap (λ (x : List ℕ). take 72 (0x80 ∷ x)) z₀
-    ∙ take_all 72 (0x80 ∷ replicate (zeros n) 0) (omega (arith, length-replicate {A = ℕ} (zeros n) 0)) in
-    x₃-is ∙ ap (λ (x : List ℕ). take 72 (x ++ f)) front ∙ ap (λ (x : List ℕ). take 72 (0x80 ∷ (replicate (zeros n) 0 ++ x))) f-is
-    ∙ take_all 72 (padding n) (omega arith)
+    let at : zeros n + 9 ≡ zeros n + 1 + 8 = omega arith in
+    let long : length f ≡ 8 = ap length e ∙ length_field n in
+    let whole = take_all 8 f (omega arith) in
+    ap (λ k. take k (paste start (zeros n + 1) f 8)) at ∙ take-paste start (zeros n + 1) f 8 (omega arith) (omega arith)
+    ∙ ap (λ x. x ++ take 8 f) (front_is (zeros n) (omega arith))
+    ∙ ap (λ (x : List ℕ). 0x80 ∷ (replicate (zeros n) 0 ++ x)) (whole ∙ e)
 
 -- what fits of y after x in a buffer of N bytes
-append_is : (N : ℕ) (x y : List ℕ) (n : ℕ) → n ≡ min (length y) (N - length x) → length x ≤ N → x ++ take n y ≡ take N (x ++ y)
+pub append_is : (N : ℕ) (x y : List ℕ) (n : ℕ) → n ≡ min (length y) (N - length x) → length x ≤ N → x ++ take n y ≡ take N (x ++ y)
 append_is N x y n e h =
     let all : length x + (N - length x) ≡ N = omega arith in
     let whole = take-append-add x y (N - length x) in
@@ -90,7 +94,7 @@ block_behind at a b h =
     sym (ap (take 64) (drop-append at a b ∙ ap (λ t. t ++ drop (at - length a) b) (drop_all at a h)))
 
 -- a block gathered from three parts
-gathered : (at : ℕ) (a b c : List ℕ)
+pub gathered : (at : ℕ) (a b c : List ℕ)
     → take 64 (take 64 (take 64 (drop at a) ++ drop (at - length a) b) ++ drop (at - (length a + length b)) c)
     ≡ take 64 (drop at (a ++ (b ++ c)))
 gathered at a b c =

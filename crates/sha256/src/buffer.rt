@@ -27,6 +27,14 @@ impl<const N: usize> Buffer<N> {
         }
     }
 
+    // The first `len` of the bytes.
+    pub fn of(bytes: [u8; N], len: usize) -> Self
+        requires { len ≤ N }
+        ensures { result ≡ take len bytes.entry }
+    {
+        Buffer { bytes, len }
+    }
+
     // Appends what fits of `part`.
     pub fn append(&mut self, part: &[u8])
         ensures { self.new ≡ take N (self.old ++ part.now) }

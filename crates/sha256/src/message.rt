@@ -1,10 +1,18 @@
 // The padded message as three parts that are not joined in memory, read a block at a time.
 ghost use Rattle.std.specs.Prelude.{◌≡◌, ℕ, ◌+◌, ◌*◌, ◌/◌, ◌^◌, ◌<◌, ◌≤◌, List, ◌++◌, length, take, drop};
+ghost use Rattle.std.proofs.Math.Seq.{paste};
 ghost use Rattle.sha256.specs.Fips180.{block, padding, word, words};
 
 use crate::buffer::Buffer;
 use hash::parts::{after, array_at};
 use std::marker::Model;
+
+fn put(bytes: &mut [u8; 72], at: usize, field: [u8; 8])
+    requires { at ≤ 64 }
+    ensures { bytes.new ≡ paste bytes.old at field 8 }
+{
+    bytes[at..at + 8].copy_from_slice(&field);
+}
 
 // The padding of a message of n bytes.
 pub fn padding_of(n: u128) -> Buffer<72>
@@ -13,11 +21,11 @@ pub fn padding_of(n: u128) -> Buffer<72>
 {
     let zeros = (119 - (n % 64) as usize) % 64;
     let bit_length = (n * 8 % 0x1_0000_0000_0000_0000) as u64;
-    let mut padding = Buffer::new();
-    padding.append(&[0x80]);
-    padding.append(&[0; 64][..zeros]);
-    padding.append(&bit_length.to_be_bytes());
-    padding
+    // No `append` of the zeros: they are there, and a copy of them would have the archive for C want `memset`.
+    let mut bytes = [0; 72];
+    bytes[0] = 0x80;
+    put(&mut bytes, zeros + 1, bit_length.to_be_bytes());
+    Buffer::of(bytes, zeros + 9)
 }
 
 // The word at j of a block.
