@@ -1,6 +1,6 @@
 // What a shard file holds, and what can be wrong with one.
 ghost use Rattle.std.specs.Prelude.{◌≡◌};
-ghost use Rattle.shardfile.specs.declared.file.Complaint.TheVariants.{Memory, NotANumber};
+ghost use Rattle.shardfile.specs.declared.file.Complaint.TheVariants.{Commitment as aCommitment, Memory, NotANumber, UnknownName as anUnknownName};
 
 use choice::hashes::HashChoice;
 use choice::kinds::KindChoice;
@@ -40,7 +40,7 @@ pub enum Complaint {
     #[error("a word too many")]
     WordTooMany,
     #[error("no such name: `covasluk --help` lists them")]
-    UnknownName(#[from] UnknownName),
+    UnknownName,
     #[error("not hexadecimal digits in pairs")]
     NotHex,
     #[error("not a number that fits: an index goes up to 65535")]
@@ -48,7 +48,7 @@ pub enum Complaint {
     #[error("the limit is 1 to 16384")]
     LimitRange,
     #[error("{0}")]
-    Commitment(#[from] Malformed),
+    Commitment(Malformed),
     #[error("this was given before")]
     Twice,
     #[error("the file ends with no commitment")]
@@ -65,7 +65,23 @@ pub struct LineFault {
     pub complaint: Complaint,
 }
 
-// By hand: a `ParseIntError` is no `Copy`, so no case of a complaint can hold it.
+// All by hand: a derived `From` does not say which complaint it makes. Nor can a case hold a `ParseIntError`, which is no `Copy`.
+impl From<UnknownName> for Complaint {
+    ghost from_gives = { λ _ complaint. complaint ≡ anUnknownName };
+
+    fn from(_error: UnknownName) -> Complaint {
+        Complaint::UnknownName
+    }
+}
+
+impl From<Malformed> for Complaint {
+    ghost from_gives = { λ malformed complaint. complaint ≡ aCommitment malformed };
+
+    fn from(malformed: Malformed) -> Complaint {
+        Complaint::Commitment(malformed)
+    }
+}
+
 impl From<ParseIntError> for Complaint {
     ghost from_gives = { λ _ complaint. complaint ≡ NotANumber };
 
@@ -74,7 +90,6 @@ impl From<ParseIntError> for Complaint {
     }
 }
 
-// These two by hand: a derived `From` does not say which complaint it makes, and `push_hex` does.
 impl From<AllocError> for Complaint {
     ghost from_gives = { λ _ complaint. complaint ≡ Memory };
 

@@ -32,14 +32,18 @@ fn finish(draft: Draft) -> Result<ShardFile, Complaint> {
 // The first line that cannot be read is told by its number and what is wrong with it.
 pub fn parse(heap: Global, text: &str) -> Result<ShardFile, LineFault> {
     let mut draft = Draft::new(heap);
+    let mut last = 0;
     for (i, words) in text.lines().enumerate() {
-        let line = i + 1;
+        last = i + 1;
         draft
-            .take_line(heap, line, words)
-            .map_err(|complaint| LineFault { line, complaint })?;
+            .take_line(heap, last, words)
+            .map_err(|complaint| LineFault {
+                line: last,
+                complaint,
+            })?;
     }
     finish(draft).map_err(|complaint| LineFault {
-        line: text.lines().count(),
+        line: last,
         complaint,
     })
 }
