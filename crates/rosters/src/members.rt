@@ -50,8 +50,11 @@ impl Members {
         requires { Few keys.now }
         ensures { result ≡ seated own keys.now }
     {
-        own.map(|key| place(keys, &key).ok_or(Fault::OwnNotMember))
-            .transpose()
+        let Some(key) = own else {
+            return Ok(None);
+        };
+        let index = place(keys, &key).ok_or(Fault::OwnNotMember)?;
+        Ok(Some(index))
     }
 
     // Refuses more than 64 keys, keys that do not ascend, and an own key that is none of them, in this order.
