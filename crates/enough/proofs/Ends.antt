@@ -1,5 +1,5 @@
 -- Trying a job and completing one keep a record sound; a short completion loses an index at least.
-use Rattle.std.proofs.Common.{◌≡◌, ℕ, suc, ◌+◌, ◌<◌, ◌≤◌, Bool, not, List, [], ◌∷◌, ◌++◌, map, length, IfSome, Some, None, Ok, Err, filter, Option, Result, sym, ap, subst, arith, length-append, length-take}
+use Rattle.std.proofs.Common.{◌≡◌, ℕ, suc, ◌+◌, ◌<◌, ◌≤◌, Bool, not, List, [], ◌∷◌, ◌++◌, map, length, IfSome, Some, None, Ok, Err, filter, Option, Result, sym, refl, ap, subst, arith, length-append, length-take}
 use Rattle.std.proofs.lemmas.Bool.{cond_both, ltb-true, not-true}
 use Rattle.std.specs.List.{AllByRecursion}
 use Rattle.block.specs.declared.kind.Reading.{Reading}
@@ -75,6 +75,8 @@ module _ (good : Indexed → Bool) (minimum : ℕ) (keys : List (List ℕ)) (own
     pub longer : length lost ≤ length more
     pub number : CachedAbove (length more) outcome
     pub grows : (i : ℕ) → GivenTo r i → GivenTo left i
+    pub commitment : left.commitment ≡ r.commitment
+    pub round : left.round ≡ r.round
 
 module _ (m : Meaning) (limit : ℕ) (keys : List (List ℕ)) (own : Option ℕ) (Hand : List ℕ → Indexed → Type 0) (r : Rec) (j : Job) (w : Shards) (lost : List ℕ) where
   abbrev good' : Indexed → Bool
@@ -109,6 +111,8 @@ module _ (m : Meaning) (limit : ℕ) (keys : List (List ℕ)) (own : Option ℕ)
           longer = omega arith;
           number = many;
           grows = t.2;
+          commitment = refl;
+          round = refl;
         }
 
     decoded-left : (n : ℕ) (opened : Opened) (result : Result Reading Error) → Ending (decoded n opened result (numbered out))
@@ -122,6 +126,8 @@ module _ (m : Meaning) (limit : ℕ) (keys : List (List ℕ)) (own : Option ℕ)
           longer = omega arith;
           number = tt;
           grows = λ i h. tt;
+          commitment = refl;
+          round = refl;
         }
 
     pub completed : Ending (completes m limit j out)

@@ -72,6 +72,8 @@ module _ (good : Indexed → Bool) (minimum : ℕ) (keys : List (List ℕ)) (own
     pub gets : index sender keys ≡ Some s.index → good s ≡ true → GivenTo t.rec s.index
     pub still : t.gained ≡ false → t.rec ≡ r
     pub commitment : t.rec.commitment ≡ r.commitment
+    pub round : t.rec.round ≡ r.round
+    pub leader : t.rec.leader ≡ r.leader
 
   module _ (few : length keys ≤ 64) (mine : (i : ℕ) → own ≡ Some i → i < length keys) (lost : List ℕ) (sender : List ℕ) (s : Indexed) (handed : Hand sender s) where
     unmoved : (r : Rec) (report : Option Reason) → Sound good minimum keys own Hand lost r →
@@ -95,6 +97,8 @@ module _ (good : Indexed → Bool) (minimum : ℕ) (keys : List (List ℕ)) (own
         gets = λ _ _. get_or-set_same r.contributed s.index true false (omega (arith, k.0.long));
         still = λ e. absurd (both_ways true e refl);
         commitment = refl;
+        round = refl;
+        leader = refl;
       }
 
       waited : get_or r.contributed s.index false ≡ false → index sender keys ≡ Some s.index → Took lost sender s (with_phase (awaiting w) r) (waits sender s w (with_phase (awaiting w) r))

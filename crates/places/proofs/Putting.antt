@@ -11,11 +11,11 @@ pub step_up : (i j size : ℕ) → i < j → i * size + size ≤ j * size
 step_up i j size h = grind (arith, rows)
 
 module _ {X : Type 0} (a k : ℕ) (xs ys : List X) (long : length ys ≡ k) (inside : a + k ≤ length xs) where
-  put-below : (o n : ℕ) → o + n ≤ a → take n (drop o (put_mid a k xs ys)) ≡ take n (drop o xs)
+  pub put-below : (o n : ℕ) → o + n ≤ a → take n (drop o (put_mid a k xs ys)) ≡ take n (drop o xs)
   put-below o n h =
       sym (drop-take o n (put_mid a k xs ys)) ∙ ap (drop o) (take-put_mid_below a k xs ys (o + n) h (omega arith)) ∙ drop-take o n xs
 
-  put-above : (o n : ℕ) → a + k ≤ o → take n (drop o (put_mid a k xs ys)) ≡ take n (drop o xs)
+  pub put-above : (o n : ℕ) → a + k ≤ o → take n (drop o (put_mid a k xs ys)) ≡ take n (drop o xs)
   put-above o n h = ap (take n) (drop-put_mid a k xs ys o h (omega arith) long)
 
 -- what is put at the front of a place leaves what lies in other places

@@ -10,7 +10,7 @@ pub contributions_more : (flags : List Bool) (i : ℕ) → i < length flags → 
 contributions_more flags i h e = omega (arith, simp e at (sum_by-set (λ (b : Bool). cond b 1 0) flags i true false h))
 
 -- an index that has not contributed leaves room for one more
-contributions_less : (flags : List Bool) (i : ℕ) → i < length flags → get_or flags i false ≡ false → contributions flags < length flags
+pub contributions_less : (flags : List Bool) (i : ℕ) → i < length flags → get_or flags i false ≡ false → contributions flags < length flags
 contributions_less flags i h e = omega (arith, contributions_more flags i h e, count_by-le-length (λ (b : Bool). b) (set flags i true), length-set flags i true)
 
 -- a record that can keep a shard has room for it in each list

@@ -16,8 +16,9 @@ use Rattle.model.specs.Meaning.{Meaning, Roster, fitted_for}
 use Rattle.model.specs.Promises.{BlocksWereHandedIn, Gives, HandedInBlock}
 use Rattle.model.specs.State.{Limits, Rec, State, record_of}
 use Rattle.model.specs.Steps.{Step, block_given, step, unless_refused}
+use Rattle.runs.proofs.Boxes.{Filled}
 use Rattle.runs.proofs.Entries.{by_option, found_key}
-use Rattle.runs.proofs.Reached.{kept}
+use Rattle.runs.proofs.Reached.{Reached, kept}
 use Rattle.runs.proofs.Records.{FineRecord, OpenedFrom, fine_keeps}
 use Rattle.runs.proofs.Rolls.{roll_record}
 use Rattle.runs.specs.Rolls.{entry_of}
@@ -61,10 +62,17 @@ module _ (limits : Limits) (m : Meaning) (a : Assignment) (h : List Event) where
   Anybody key = Unit {0}
 
   module _ (s : State) (leads : Leads limits m a h s) where
-    records_fine : AllByRecursion (FineRecord limits m a H A) s.records
-    records_fine =
-        (kept limits m a (FineRecord limits m a H A) Anybody h s
-        (fine_keeps limits m a H A Anybody (λ keys own sender s r _ _ _. grind arith) (λ j r _ _. all_anything _)) leads).sound.records
+    here : Reached limits m a H A (FineRecord limits m a H A) Anybody h s
+    here =
+        kept limits m a (FineRecord limits m a H A) Anybody h s
+        (fine_keeps limits m a H A Anybody (λ keys own sender s r _ _ _. grind arith) (λ j r _ _. all_anything _)) leads
+
+    pub records_fine : AllByRecursion (FineRecord limits m a H A) s.records
+    records_fine = here.sound.records
+
+    -- what lies in a peer's box, that peer handed in
+    pub boxes_filled : AllByRecursion (Filled H) s.peers
+    boxes_filled = here.sound.boxes
 
     block_handed_in : (c : List ℕ) (r : Rec) (blob : List ℕ) → record_of c s ≡ Some r → OpenedFrom limits m a H A c r.round.epoch.0 blob → HandedInBlock limits m a h c (block_in blob)
     block_handed_in c r blob at from =

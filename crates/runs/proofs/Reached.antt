@@ -215,7 +215,7 @@ module _ (limits : Limits) (m : Meaning) (a : Assignment) (H : List ℕ → List
 
 -- what a history's calls brought and named is what is handed in and announced in it
 module _ (limits : Limits) (m : Meaning) (a : Assignment) (P : Rec → Type 0) (R : List ℕ → Type 0) where
-  all_tell : (H : List ℕ → List ℕ → Indexed → Type 0) (A : List ℕ → ℕ → Type 0) (h : List Event) → ((c k : List ℕ) (x : Indexed) → HandedIn h c k x → H c k x) → ((c : List ℕ) (e : ℕ) → Announced h c e → A c e) → AllByRecursion (λ (e : Event). Tells limits m a H A P R e.call e.answer) h
+  pub all_tell : (H : List ℕ → List ℕ → Indexed → Type 0) (A : List ℕ → ℕ → Type 0) (h : List Event) → ((c k : List ℕ) (x : Indexed) → HandedIn h c k x → H c k x) → ((c : List ℕ) (e : ℕ) → Announced h c e → A c e) → AllByRecursion (λ (e : Event). Tells limits m a H A P R e.call e.answer) h
   all_tell H A [] f g = tt
   all_tell H A (e ∷ h) f g = grind (arith, all_tell H A h (λ c k x z. f c k x (inr z)) (λ c n z. g c n (inr z)))
 

@@ -46,7 +46,7 @@ pub advanced_entry : (i : Ingested) → entry_of (advanced i) ≡ entry_of i.rec
 advanced_entry i = grind (arith, tries_entry)
 
 module _ (limits : Limits) (m : Meaning) (roster : Roster) where
-  taken_entry : (keys : List (List ℕ)) (e : ℕ) (i : Ingested) (ps : List Sent) → entry_of (all_taken limits m roster keys e i ps).rec ≡ entry_of i.rec
+  pub taken_entry : (keys : List (List ℕ)) (e : ℕ) (i : Ingested) (ps : List Sent) → entry_of (all_taken limits m roster keys e i ps).rec ≡ entry_of i.rec
   taken_entry keys e i [] = refl
   taken_entry keys e i (p ∷ ps) = grind (arith, intake_entry, taken_entry keys e (taken limits m roster keys e i p) ps)
 
