@@ -1,4 +1,4 @@
-use Rattle.std.proofs.Common.{◌+◌, take, ap, ◌∙◌, arith}
+use Rattle.std.proofs.Common.{◌+◌, take, ap, ◌∙◌}
 use Rattle.sha256.specs.Fips180.{zeros}
 use Rattle.sha256.proofs.Parts.{field_is, padding_is}
 use Rattle.sha256.proofs.message.padding_of.Goals as goal
