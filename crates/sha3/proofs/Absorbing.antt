@@ -8,9 +8,9 @@ use Rattle.sha3.proofs.Padding.{padded-drop}
 use Rattle.sha3.proofs.Reading.{lane-drop}
 
 -- The lanes behind the block stay.
-pub stays : (S P : List ℕ) (l : ℕ) → 17 ≤ l → get_or S l 0 ≡ xored_lane S P 0 l
-stays S P l h =
-    sym (ap (λ b. bit_xor (get_or S l 0) (cond b (lane P (0 + 8 * l)) 0)) (le-ltb l 17 h) ∙ xor_zero_r (get_or S l 0))
+pub stays : (S P : List ℕ) (k l : ℕ) → 17 ≤ l → get_or S l 0 ≡ xored_lane S P k l
+stays S P k l h =
+    sym (ap (λ b. bit_xor (get_or S l 0) (cond b (lane P (k + 8 * l)) 0)) (le-ltb l 17 h) ∙ xor_zero_r (get_or S l 0))
 
 xored-drop : (S P : List ℕ) (n : ℕ) → xored S (drop n P) 0 ≡ xored S P n
 unfolding xored

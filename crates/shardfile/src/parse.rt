@@ -32,6 +32,7 @@ fn finish(draft: Draft) -> Result<ShardFile, Complaint> {
 // The first line that cannot be read is told by its number and what is wrong with it.
 pub fn parse(heap: Global, text: &str) -> Result<ShardFile, LineFault> {
     let mut draft = Draft::new(heap);
+    // Kept in the loop: counted apart, a text with no commitment would be gone through twice.
     let mut last = 0;
     for (i, words) in text.lines().enumerate() {
         last = i + 1;

@@ -21,20 +21,6 @@ pub trait Ordered {
     ghost ties: { (a b c : Self) → order a b ≡ Equal → order a c ≡ order b c };
 }
 
-impl<T: Ord> Ordered for T {
-    ghost order = { T.cmp };
-
-    ghost reverses = { λ a b. T.total.antisymm b a };
-
-    ghost ascends = { T.total.trans };
-
-    ghost ties = { T.total.congr };
-
-    fn compare(&self, other: &T) -> Ordering {
-        self.cmp(other)
-    }
-}
-
 // Keys of which equal is the same key. The table's functions do not ask for it.
 pub trait Exact: Ordered {
     ghost same: { (a b : Self) → Self.Ordered.order a b ≡ Equal → a ≡ b };

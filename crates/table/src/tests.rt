@@ -8,6 +8,20 @@ use std::test::Fail;
 #[derive(Clone, Copy, PartialEq, Eq, PartialOrd, Ord)]
 struct Word(u16);
 
+impl Ordered for Word {
+    ghost order = { λ a b. nat_cmp a.0 b.0 };
+
+    ghost reverses = { Prim.search rules };
+
+    ghost ascends = { Prim.search rules };
+
+    ghost ties = { Prim.search rules };
+
+    fn compare(&self, other: &Word) -> Ordering {
+        self.cmp(other)
+    }
+}
+
 impl Exact for Word {
     ghost same = { Prim.search rules };
 }
@@ -35,15 +49,16 @@ fn entry(word: u16, value: u8) -> Pair {
     }
 }
 
-// Ranks alone are compared, so two keys may be equal and yet differ: an order that `==` does not follow.
-#[derive(Clone, Copy, PartialEq, Eq)]
+// Ranks alone are compared, the higher first, so two keys may be equal and yet differ: an order that neither `==` nor the
+// derived one follows.
+#[derive(Clone, Copy, PartialEq, Eq, PartialOrd, Ord)]
 struct Ranked {
     rank: u16,
     note: u16,
 }
 
 impl Ordered for Ranked {
-    ghost order = { λ a b. nat_cmp a.rank b.rank };
+    ghost order = { λ a b. nat_cmp b.rank a.rank };
 
     ghost reverses = { Prim.search rules };
 
@@ -52,7 +67,7 @@ impl Ordered for Ranked {
     ghost ties = { Prim.search rules };
 
     fn compare(&self, other: &Ranked) -> Ordering {
-        self.rank.cmp(&other.rank)
+        other.rank.cmp(&self.rank)
     }
 }
 
@@ -68,14 +83,16 @@ impl Entry for Ranked {
 
 #[test]
 fn equal_keys_may_differ(rt: HostRuntime) {
-    let mut ranks = [Ranked { rank: 1, note: 0 }; 2];
+    let mut ranks = [Ranked { rank: 1, note: 0 }; 3];
     assert_eq!(rt; insert(&mut ranks, 0, Ranked { rank: 1, note: 7 }), Ok(0));
     assert_eq!(rt;
         insert(&mut ranks, 1, Ranked { rank: 1, note: 8 }),
         Err(Refusal::Present)
     );
-    assert_eq!(rt; find(&ranks, 1, &Ranked { rank: 1, note: 9 }), Ok(0));
-    assert_eq!(rt; ranks[0].note, 7);
+    assert_eq!(rt; insert(&mut ranks, 1, Ranked { rank: 2, note: 5 }), Ok(0));
+    assert_eq!(rt; find(&ranks, 2, &Ranked { rank: 1, note: 9 }), Ok(1));
+    assert_eq!(rt; ranks[0].note, 5);
+    assert_eq!(rt; ranks[1].note, 7);
 }
 
 #[test]

@@ -27,5 +27,5 @@ returns c =
     (λ low. get_or_append_left front (drop 17 S) 0 k (omega arith) ∙ c.loop-l.invariant.1 k (omega arith))
     (λ high.
     let back : 17 + (k - 17) ≡ k = omega arith in
-    get_or-append_right front (drop 17 S) 17 k 0 m high ∙ get_or-drop 17 S (k - 17) 0 ∙ ap (λ i. get_or S i 0) back ∙ stays S P k high)
+    get_or-append_right front (drop 17 S) 17 k 0 m high ∙ get_or-drop 17 S (k - 17) 0 ∙ ap (λ i. get_or S i 0) back ∙ stays S P 0 k high)
     (cases_lt k 17))

@@ -1,17 +1,9 @@
-use Rattle.std.proofs.Common.{◌≡◌, ◌+◌, ◌-◌, length, drop, take, sym, ap, ◌∙◌, arith, length-drop, length-take, rules}
+use Rattle.std.proofs.Common.{◌≡◌, ◌+◌, ◌-◌, length, drop, sym, ap, ◌∙◌, arith, length-drop, length-take, rules}
 use borrow.Rule.Slice.PartMut.{put_mid}
-use Rattle.std.specs.Cmp.Lexicographic.{slice_cmp}
-use Rattle.std.specs.Ordering.{nat_cmp}
-use Rattle.register.specs.ByteOrder.{slice_order}
-use Rattle.register.specs.declared.key.Key.{Key}
 use Rattle.table.specs.Table.{put}
 use Rattle.record.specs.Fields.{by_sender, sender_named}
 use Rattle.record.proofs.Parting.{behind_front, behind_part, part_front}
 use Rattle.record.proofs.record.Record.join_pending.Goals as goal
-
--- the derived order of keys is that of their bytes
-derived : (λ (a b : Key). slice_cmp nat_cmp a.bytes b.bytes) ≡ by_sender
-derived = λ i a b. slice_order a.bytes b.bytes i
 
 pub returns-clause-table : goal.returns-clause-table
 returns-clause-table c =
@@ -21,7 +13,7 @@ returns-clause-table c =
     let ys = c.file.new.entries in
     let whole : length xs ≡ 64 = search rules in
     let part : length ys ≡ 64 - a = c.file.auto.entries ∙ simp (length-take, length-drop) (omega arith) in
-    behind_front a (64 - a) xs ys (omega arith) c.file.result (omega (arith, c.file.ensures.count)) ∙ c.file.ensures.table ∙ ap (put (λ (p q : Key). slice_cmp nat_cmp p.bytes q.bytes) sender_named (record { sender = c.args.sender.now; shard = c.args.stored })) (part_front a (64 - a) n xs (omega arith)) ∙ ap (λ o. put o sender_named (record { sender = c.args.sender.now; shard = c.args.stored }) (drop a (take n xs))) derived
+    behind_front a (64 - a) xs ys (omega arith) c.file.result (omega (arith, c.file.ensures.count)) ∙ c.file.ensures.table ∙ ap (put by_sender sender_named (record { sender = c.args.sender.now; shard = c.args.stored })) (part_front a (64 - a) n xs (omega arith))
 
 pub returns-clause-behind : goal.returns-clause-behind
 returns-clause-behind c =
